@@ -1,0 +1,7 @@
+-- Document 01 as definitions, one module for each section, in its order and words. What a reader must believe is all here.
+pub mod Ceilings
+pub mod Octets
+pub mod Outcome
+pub mod Names
+pub mod Reservations
+pub mod Writer
