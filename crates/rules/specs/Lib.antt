@@ -1,7 +1,21 @@
 -- Document 01 as definitions, one module for each section, in its order and words. What a reader must believe is all here.
 pub mod Ceilings
 pub mod Octets
+pub mod Lists
 pub mod Outcome
 pub mod Names
 pub mod Reservations
 pub mod Writer
+pub mod Blob
+pub mod Tokens
+pub mod Events
+pub mod Tree
+pub mod Reader
+pub mod Written
+pub mod References
+pub mod Listing
+pub mod Copy
+pub mod Derivation
+pub mod Program
+pub mod Withheld
+pub mod Bench

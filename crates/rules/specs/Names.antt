@@ -7,17 +7,10 @@ use lib.Dec.{leb, eqb}
 use lib.ListN.{length, take, drop}
 use Rattle.rules.specs.Ceilings.{nodeNameCeiling, propertyNameCeiling}
 use Rattle.rules.specs.Octets.{Bytes, if_then_else_}
+use Rattle.rules.specs.Lists.{oneOf, every}
 
 abbrev pub within : ℕ → ℕ → ℕ → Bool
 within low high n = leb low n && leb n high
-
-unfoldable pub oneOf : ℕ → List ℕ → Bool
-oneOf b [] = false
-oneOf b (x ∷ xs) = eqb b x || oneOf b xs
-
-unfoldable pub every : (ℕ → Bool) → Bytes → Bool
-every f [] = true
-every f (b ∷ bs) = f b && every f bs
 
 -- 0-9 A-Z a-z , . _ + -
 unfoldable pub nodeChar : ℕ → Bool

@@ -21,6 +21,11 @@ abbrev pub _then_ : {A : Type 0} → Verdict → Outcome A → Outcome A
 _then_ (gives u) next = next
 _then_ (refuses number place) next = refuses number place
 
+-- what stands where it is refused, the old, and where it is not, the new
+abbrev pub settled {ℓ} : {A : Type 0} {B : Type ℓ} → Outcome A → B → B → B
+settled (gives a) old new = new
+settled (refuses number place) old new = old
+
 -- a test, and the number and place of its refusal
 pub record Test : Type 0 where
   pub fails : Bool

@@ -7,8 +7,9 @@ use lib.Dec.{eqb, ltb, leb}
 use lib.ListN.{length, take}
 use Rattle.rules.specs.Ceilings.{blobCeiling, openCeiling, reservationCeiling}
 use Rattle.rules.specs.Octets.{Bytes, if_then_else_, be32, be64, words32, words64, zeros, filled, put, hasNul, closed, ascii, begins}
-use Rattle.rules.specs.Names.{nodeNameValid, propertyNameValid, oneOf}
-use Rattle.rules.specs.Outcome.{Verdict, gives, refuses, Test, first}
+use Rattle.rules.specs.Names.{nodeNameValid, propertyNameValid}
+use Rattle.rules.specs.Lists.{oneOf}
+use Rattle.rules.specs.Outcome.{Verdict, settled, Test, first}
 use Rattle.rules.specs.Reservations.{Entry, anyInvalid, overlapping, block}
 
 -- the writer state
@@ -84,12 +85,7 @@ wrongState w dataLent stringsLent = record { fails = impossible w dataLent strin
 abbrev pub test : Bool → ℕ → Test
 test fails number = record { fails = fails; number = number; place = 0 }
 
--- "A refused call changes neither state nor buffers": the old where it is refused, the new where it is not
-abbrev pub settled {ℓ} : {A : Type ℓ} → Verdict → A → A → A
-settled (gives u) old new = new
-settled (refuses number place) old new = old
-
--- what a call answers: its verdict, and the state that it hands back
+-- what a call answers: its verdict, and the state that it hands back ("A refused call changes neither state nor buffers")
 pub record Answer : Type 0 where
   pub verdict : Verdict
   pub state : State
