@@ -7,24 +7,7 @@ use mathlib.Core.Option.{Option, none, some}
 use Prim.Native.Nat.{ℕ, _+_, _-_, _^_}
 use Prim.Native.String.{String}
 use lib.ListN.{length, replicate}
-use Rattle.rules.specs.Ceilings
-use Rattle.rules.specs.Octets
-use Rattle.rules.specs.Lists
-use Rattle.rules.specs.Names
-use Rattle.rules.specs.Reservations
-use Rattle.rules.specs.Writer
-use Rattle.rules.specs.Written
-use Rattle.rules.specs.Blob
-use Rattle.rules.specs.Tokens
-use Rattle.rules.specs.Events
-use Rattle.rules.specs.Tree
-use Rattle.rules.specs.Reader
-use Rattle.rules.specs.References
-use Rattle.rules.specs.Listing
-use Rattle.rules.specs.Copy
-use Rattle.rules.specs.Derivation
-use Rattle.rules.specs.Program
-use Rattle.rules.specs.Withheld
+use Rattle.rules.specs.Everything.{everything}
 use Rattle.rules.specs.Octets.{Bytes, wordAt, words32, zeros, ascii, closed}
 use Rattle.rules.specs.Outcome.{Outcome, gives, refuses, Verdict}
 use Rattle.rules.specs.Names.{nodeNameValid, propertyNameValid}
@@ -136,7 +119,7 @@ starredCases =
     ∷ []
 
 pub starred : allGet starredCases ≡ allWant starredCases
-unfolding eventsT hostT Ceilings.blobCeiling Ceilings.nodeCeiling Ceilings.openCeiling Ceilings.nodeNameCeiling Ceilings.propertyNameCeiling Ceilings.entryCeiling Ceilings.pathCeiling Ceilings.reservationCeiling Ceilings.workWords Ceilings.nodeWords Ceilings.programCeiling Octets.wordAt Octets.longAt Octets.be32 Octets.be64 Octets.numberAfter Octets.words32 Octets.words64 Octets.filled Octets.put Octets.lay Octets.nulIn Octets.ascii Octets.same Octets.begins Octets.holds Octets.before Lists.oneOf Lists.every Lists.any Lists.keep Lists.insert Lists.sort Lists.fresh Names.nodeChar Names.propertyChar Names.atSign Names.nodeNameValid Names.propertyNameValid Names.nodeNameReads Names.propertyNameReads Reservations.invalid Reservations.made Reservations.anyInvalid Reservations.insert Reservations.sortedFrom Reservations.neighbours Reservations.overlapping Reservations.entryBytes Reservations.block Writer.beginBytes Writer.endBytes Writer.propertyBytes Writer.headerBytes Writer.nameFrom Writer.nameGrowth Writer.impossible Writer.startBytes Writer.startJudged Writer.start Writer.startData Writer.setBootCpu Writer.beginJudged Writer.beginNode Writer.beginNodeData Writer.endJudged Writer.endNode Writer.endNodeData Writer.propertyJudged Writer.property Writer.propertyData Writer.propertyStrings Writer.badList Writer.phandleJudged Writer.phandle Writer.phandleData Writer.phandleStrings Writer.phandleTable Writer.finishJudged Writer.finish Writer.finishData Written.writeEvent Written.writeEvents Written.blobWith Written.blobOf Written.propertyCall Written.call Written.run Written.finished Written.written Written.said Written.bootSaid Written.spelled Written.unplaced Blob.headerIn Blob.entriesFrom Blob.entriesIn Blob.misplaced Blob.headerJudged Blob.blockIn Tokens.beginAt Tokens.propAt Tokens.tagged Tokens.tokenAt Tokens.tokensFrom Tokens.tokens Events.stringAt Events.propertyReads Events.opening Events.closing Events.holding Events.ending Events.judge Events.shapeJudged Events.eventsOf Events.eventsIn Tree.propsOf Tree.nodesFrom Tree.nodesOf Tree.valueOf Tree.sibling Tree.named Tree.doubledProps Tree.doubledFrom Tree.doubledJudged Tree.among Tree.phandleNames Tree.cellsNames Tree.wordsFrom Tree.wordsJudged Tree.phandleProp Tree.sharedFrom Tree.sharedJudged Tree.climb Tree.spell Tree.numbersFrom Reader.eventsRead Reader.treeRead Reader.blobJudged Reader.spaceJudged Reader.read Reader.rowOf Reader.rowsOf Reader.spaceOf Reader.readWork References.referenceNames References.isGpio References.isReference References.cellRows References.cellsIn References.edition1 References.placeOf References.lookup References.wordNamed References.cellCount References.scanFrom References.scan References.referencesOf References.targetsIn References.targets Listing.nodesBelow Listing.gather Listing.givenNodes Listing.starts Listing.work Listing.found Listing.reachedList Listing.within Listing.listed Listing.pathsBytes Copy.isCpus Copy.cpuChild Copy.regOf Copy.stranger Copy.near Copy.picked Copy.copied Copy.sieve Copy.guestEvents Copy.guestBytes Derivation.givenFrom Derivation.given Derivation.pathAtFault Derivation.pathsJudged Derivation.listsJudged Derivation.nodeAmong Derivation.repeats Derivation.configuredFrom Derivation.configuredJudged Derivation.nodesNamed Derivation.asked Derivation.cpusFrom Derivation.cpusJudged Derivation.met Derivation.idsFrom Derivation.requestJudged Derivation.listedPaths Derivation.listOf Derivation.guestOf Derivation.roomJudged Derivation.derive Derivation.deriveList Derivation.deriveGuest Derivation.deriveWork Program.lineEnd Program.linesFrom Program.linesOf Program.decimalAfter Program.decimalSaid Program.lineSaid Program.linesJudged Program.inputJudged Program.configuredIn Program.excludedIn Program.idsIn Program.requestIn Program.digitsFrom Program.decimal Program.printedPaths Program.printedAnswer Program.printedRefusal Program.hostJudged Program.programOutcome Program.program Withheld.hidden Withheld.inValue Withheld.hiddenIn Withheld.withheld
+unfolding eventsT hostT everything
 starred = refl
 
 -- ---- tree T, whole
@@ -215,7 +198,7 @@ pub answerT :
           ascii "paths 3" ++ (10 ∷ (ascii "/soc/uart@100" ++ (10 ∷ (ascii "/clk" ++ (10 ∷ (ascii "/pd" ++ (10 ∷ (ascii "guest 254" ++ (10 ∷ [])))))))));
       guest = some guestT;
     }
-unfolding eventsT hostT Ceilings.blobCeiling Ceilings.nodeCeiling Ceilings.openCeiling Ceilings.nodeNameCeiling Ceilings.propertyNameCeiling Ceilings.entryCeiling Ceilings.pathCeiling Ceilings.reservationCeiling Ceilings.workWords Ceilings.nodeWords Ceilings.programCeiling Octets.wordAt Octets.longAt Octets.be32 Octets.be64 Octets.numberAfter Octets.words32 Octets.words64 Octets.filled Octets.put Octets.lay Octets.nulIn Octets.ascii Octets.same Octets.begins Octets.holds Octets.before Lists.oneOf Lists.every Lists.any Lists.keep Lists.insert Lists.sort Lists.fresh Names.nodeChar Names.propertyChar Names.atSign Names.nodeNameValid Names.propertyNameValid Names.nodeNameReads Names.propertyNameReads Reservations.invalid Reservations.made Reservations.anyInvalid Reservations.insert Reservations.sortedFrom Reservations.neighbours Reservations.overlapping Reservations.entryBytes Reservations.block Writer.beginBytes Writer.endBytes Writer.propertyBytes Writer.headerBytes Writer.nameFrom Writer.nameGrowth Writer.impossible Writer.startBytes Writer.startJudged Writer.start Writer.startData Writer.setBootCpu Writer.beginJudged Writer.beginNode Writer.beginNodeData Writer.endJudged Writer.endNode Writer.endNodeData Writer.propertyJudged Writer.property Writer.propertyData Writer.propertyStrings Writer.badList Writer.phandleJudged Writer.phandle Writer.phandleData Writer.phandleStrings Writer.phandleTable Writer.finishJudged Writer.finish Writer.finishData Written.writeEvent Written.writeEvents Written.blobWith Written.blobOf Written.propertyCall Written.call Written.run Written.finished Written.written Written.said Written.bootSaid Written.spelled Written.unplaced Blob.headerIn Blob.entriesFrom Blob.entriesIn Blob.misplaced Blob.headerJudged Blob.blockIn Tokens.beginAt Tokens.propAt Tokens.tagged Tokens.tokenAt Tokens.tokensFrom Tokens.tokens Events.stringAt Events.propertyReads Events.opening Events.closing Events.holding Events.ending Events.judge Events.shapeJudged Events.eventsOf Events.eventsIn Tree.propsOf Tree.nodesFrom Tree.nodesOf Tree.valueOf Tree.sibling Tree.named Tree.doubledProps Tree.doubledFrom Tree.doubledJudged Tree.among Tree.phandleNames Tree.cellsNames Tree.wordsFrom Tree.wordsJudged Tree.phandleProp Tree.sharedFrom Tree.sharedJudged Tree.climb Tree.spell Tree.numbersFrom Reader.eventsRead Reader.treeRead Reader.blobJudged Reader.spaceJudged Reader.read Reader.rowOf Reader.rowsOf Reader.spaceOf Reader.readWork References.referenceNames References.isGpio References.isReference References.cellRows References.cellsIn References.edition1 References.placeOf References.lookup References.wordNamed References.cellCount References.scanFrom References.scan References.referencesOf References.targetsIn References.targets Listing.nodesBelow Listing.gather Listing.givenNodes Listing.starts Listing.work Listing.found Listing.reachedList Listing.within Listing.listed Listing.pathsBytes Copy.isCpus Copy.cpuChild Copy.regOf Copy.stranger Copy.near Copy.picked Copy.copied Copy.sieve Copy.guestEvents Copy.guestBytes Derivation.givenFrom Derivation.given Derivation.pathAtFault Derivation.pathsJudged Derivation.listsJudged Derivation.nodeAmong Derivation.repeats Derivation.configuredFrom Derivation.configuredJudged Derivation.nodesNamed Derivation.asked Derivation.cpusFrom Derivation.cpusJudged Derivation.met Derivation.idsFrom Derivation.requestJudged Derivation.listedPaths Derivation.listOf Derivation.guestOf Derivation.roomJudged Derivation.derive Derivation.deriveList Derivation.deriveGuest Derivation.deriveWork Program.lineEnd Program.linesFrom Program.linesOf Program.decimalAfter Program.decimalSaid Program.lineSaid Program.linesJudged Program.inputJudged Program.configuredIn Program.excludedIn Program.idsIn Program.requestIn Program.digitsFrom Program.decimal Program.printedPaths Program.printedAnswer Program.printedRefusal Program.hostJudged Program.programOutcome Program.program Withheld.hidden Withheld.inValue Withheld.hiddenIn Withheld.withheld
+unfolding eventsT hostT everything
 answerT = refl
 
 -- ---- the rule table
@@ -289,5 +272,5 @@ nameCases =
 
 pub names :
     map (λ (c : NameCase). named (c .name) (isReference (ascii (c .name))) (cellsIn cellRows (ascii (c .name)))) nameCases ≡ nameCases
-unfolding Ceilings.blobCeiling Ceilings.nodeCeiling Ceilings.openCeiling Ceilings.nodeNameCeiling Ceilings.propertyNameCeiling Ceilings.entryCeiling Ceilings.pathCeiling Ceilings.reservationCeiling Ceilings.workWords Ceilings.nodeWords Ceilings.programCeiling Octets.wordAt Octets.longAt Octets.be32 Octets.be64 Octets.numberAfter Octets.words32 Octets.words64 Octets.filled Octets.put Octets.lay Octets.nulIn Octets.ascii Octets.same Octets.begins Octets.holds Octets.before Lists.oneOf Lists.every Lists.any Lists.keep Lists.insert Lists.sort Lists.fresh Names.nodeChar Names.propertyChar Names.atSign Names.nodeNameValid Names.propertyNameValid Names.nodeNameReads Names.propertyNameReads Reservations.invalid Reservations.made Reservations.anyInvalid Reservations.insert Reservations.sortedFrom Reservations.neighbours Reservations.overlapping Reservations.entryBytes Reservations.block Writer.beginBytes Writer.endBytes Writer.propertyBytes Writer.headerBytes Writer.nameFrom Writer.nameGrowth Writer.impossible Writer.startBytes Writer.startJudged Writer.start Writer.startData Writer.setBootCpu Writer.beginJudged Writer.beginNode Writer.beginNodeData Writer.endJudged Writer.endNode Writer.endNodeData Writer.propertyJudged Writer.property Writer.propertyData Writer.propertyStrings Writer.badList Writer.phandleJudged Writer.phandle Writer.phandleData Writer.phandleStrings Writer.phandleTable Writer.finishJudged Writer.finish Writer.finishData Written.writeEvent Written.writeEvents Written.blobWith Written.blobOf Written.propertyCall Written.call Written.run Written.finished Written.written Written.said Written.bootSaid Written.spelled Written.unplaced Blob.headerIn Blob.entriesFrom Blob.entriesIn Blob.misplaced Blob.headerJudged Blob.blockIn Tokens.beginAt Tokens.propAt Tokens.tagged Tokens.tokenAt Tokens.tokensFrom Tokens.tokens Events.stringAt Events.propertyReads Events.opening Events.closing Events.holding Events.ending Events.judge Events.shapeJudged Events.eventsOf Events.eventsIn Tree.propsOf Tree.nodesFrom Tree.nodesOf Tree.valueOf Tree.sibling Tree.named Tree.doubledProps Tree.doubledFrom Tree.doubledJudged Tree.among Tree.phandleNames Tree.cellsNames Tree.wordsFrom Tree.wordsJudged Tree.phandleProp Tree.sharedFrom Tree.sharedJudged Tree.climb Tree.spell Tree.numbersFrom Reader.eventsRead Reader.treeRead Reader.blobJudged Reader.spaceJudged Reader.read Reader.rowOf Reader.rowsOf Reader.spaceOf Reader.readWork References.referenceNames References.isGpio References.isReference References.cellRows References.cellsIn References.edition1 References.placeOf References.lookup References.wordNamed References.cellCount References.scanFrom References.scan References.referencesOf References.targetsIn References.targets Listing.nodesBelow Listing.gather Listing.givenNodes Listing.starts Listing.work Listing.found Listing.reachedList Listing.within Listing.listed Listing.pathsBytes Copy.isCpus Copy.cpuChild Copy.regOf Copy.stranger Copy.near Copy.picked Copy.copied Copy.sieve Copy.guestEvents Copy.guestBytes Derivation.givenFrom Derivation.given Derivation.pathAtFault Derivation.pathsJudged Derivation.listsJudged Derivation.nodeAmong Derivation.repeats Derivation.configuredFrom Derivation.configuredJudged Derivation.nodesNamed Derivation.asked Derivation.cpusFrom Derivation.cpusJudged Derivation.met Derivation.idsFrom Derivation.requestJudged Derivation.listedPaths Derivation.listOf Derivation.guestOf Derivation.roomJudged Derivation.derive Derivation.deriveList Derivation.deriveGuest Derivation.deriveWork Program.lineEnd Program.linesFrom Program.linesOf Program.decimalAfter Program.decimalSaid Program.lineSaid Program.linesJudged Program.inputJudged Program.configuredIn Program.excludedIn Program.idsIn Program.requestIn Program.digitsFrom Program.decimal Program.printedPaths Program.printedAnswer Program.printedRefusal Program.hostJudged Program.programOutcome Program.program Withheld.hidden Withheld.inValue Withheld.hiddenIn Withheld.withheld
+unfolding everything
 names = refl

@@ -18,4 +18,5 @@ pub mod Copy
 pub mod Derivation
 pub mod Program
 pub mod Withheld
+pub mod Everything
 pub mod Bench
