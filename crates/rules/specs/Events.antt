@@ -134,3 +134,21 @@ eventsOf b (t ∷ ts) = saying b (t .at) (t .token) (eventsOf b ts)
 
 unfoldable pub eventsIn : Block → List Event
 eventsIn b = eventsOf b (tokens (b .structure))
+
+-- The shape of events, as the tokens that say them are judged; the place is the event's.
+abbrev pub placeOf : Event → ℕ
+placeOf (opens place name) = place
+placeOf (has p) = p .place
+placeOf (closes place) = place
+
+abbrev pub onEvent : Walk → Event → Step
+onEvent w (opens place name) = opening w name
+onEvent w (has p) = holding w (propertyNameReads (p .name))
+onEvent w (closes place) = closing w
+
+unfoldable pub judgeEvents : Walk → List Event → Verdict
+judgeEvents w [] = after (λ (v : Walk). passes) 0 (ending w true)
+judgeEvents w (e ∷ es) = after (λ (v : Walk). judgeEvents v es) (placeOf e) (onEvent w e)
+
+unfoldable pub eventsJudged : List Event → Verdict
+eventsJudged es = judgeEvents atStart es

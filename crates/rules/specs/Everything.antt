@@ -55,7 +55,7 @@ unfolding Tokens.beginAt Tokens.propAt Tokens.tagged Tokens.tokenAt Tokens.token
 inTokens = tt
 
 unfoldable pub inEvents : Unit {0}
-unfolding Events.stringAt Events.propertyReads Events.opening Events.closing Events.holding Events.ending Events.judge Events.shapeJudged Events.eventsOf Events.eventsIn
+unfolding Events.stringAt Events.propertyReads Events.opening Events.closing Events.holding Events.ending Events.judge Events.shapeJudged Events.eventsOf Events.eventsIn Events.judgeEvents Events.eventsJudged
 inEvents = tt
 
 unfoldable pub inTree : Unit {0}

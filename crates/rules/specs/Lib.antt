@@ -18,5 +18,6 @@ pub mod Copy
 pub mod Derivation
 pub mod Program
 pub mod Withheld
+pub mod Demands
 pub mod Everything
 pub mod Bench

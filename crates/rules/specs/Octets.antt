@@ -2,7 +2,7 @@
 -- DTSpec 5.1: all numbers are big-endian. A byte past the end reads 0.
 use mathlib.Core.Bool.{Bool, true, false, _&&_, _||_}
 use mathlib.Core.List.{List, [], _∷_, _++_, reverse}
-use Prim.Native.Nat.{ℕ, suc, _+_, _-_, _*_, _/_, _%_}
+use Prim.Native.Nat.{ℕ, suc, _+_, _-_, _*_, _/_, _%_, _<_}
 use Prim.Native.Char.{code}
 use Prim.Native.String.{String, [] as []ˢ, _∷_ as _∷ˢ_}
 use lib.Dec.{eqb, ltb}
@@ -10,6 +10,10 @@ use lib.ListN.{length, getD, take, drop, replicate}
 
 abbrev pub Bytes : Type 0
 Bytes = List ℕ
+
+-- every number is a byte; what is lent as bytes is so
+abbrev pub AreBytes : Bytes → Type 0
+AreBytes s = (i : ℕ) → getD s i 0 < 256
 
 infix 5 if_then_else_
 -- the first where the test passes, the second where it fails
