@@ -5,3 +5,5 @@ pub mod Outcome
 pub mod Names
 pub mod Reservations
 pub mod Writer
+-- what follows from them, proved: nothing in it needs to be believed
+pub mod Laws
