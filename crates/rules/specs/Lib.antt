@@ -21,3 +21,5 @@ pub mod Withheld
 pub mod Demands
 pub mod Everything
 pub mod Bench
+-- what follows from them, proved: nothing in it needs to be believed
+pub mod Laws

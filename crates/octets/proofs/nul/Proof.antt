@@ -1,0 +1,48 @@
+-- `nul` meets its contract. The invariant: the bytes passed, with those before the first NUL from i on, are those before the first
+-- NUL from `at` on.
+use mathlib.Core.Path.{_≡_}
+use Prim.Native.Nat.{_+_, _-_, _≤_}
+use native.Mathlib.Omega.{arith}
+use lib.ListN.{length, drop}
+use denote.Ref.{now}
+use Rattle.rules.specs.Octets.{nulIn}
+use Rattle.rules.specs.Laws.Octets.{nul-here, nul-more, nul-end}
+use borrow.Author.Needs.{needs}
+use Rattle.octets.proofs.nul.Statement.{statement}
+use Rattle.octets.proofs.nul.Tie as tie
+
+abbrev Inv-loop : tie.InvT-loop
+Inv-loop s at i₀ i = (at ≤ i) × (at + nulIn (drop at s) ≡ i + nulIn (drop i s))
+
+abbrev μ-loop : tie.MeasureT-loop
+μ-loop s at i₀ i = length s - i
+
+loop-holds : tie.Need-loop-holds Inv-loop μ-loop
+loop-holds c = search needs
+
+shared-slice-read-if1 : tie.Need-shared-slice-read-if1 Inv-loop μ-loop
+shared-slice-read-if1 c = search needs
+
+sub-result : tie.Need-sub-result Inv-loop μ-loop
+sub-result c = search needs
+
+returns : tie.Need-returns Inv-loop μ-loop
+returns c = omega (arith, nul-here (now (c .before .before .before .before .args .s)) (c .before .before .before .loop .i) (c .before .before .loop-test .taken) (c .if1 .taken))
+
+add-i : tie.Need-add-i Inv-loop μ-loop
+add-i c = search needs
+
+loop-less : tie.Need-loop-less Inv-loop μ-loop
+loop-less c = search needs
+
+loop-again : tie.Need-loop-again Inv-loop μ-loop
+loop-again c = omega (arith, nul-more (now (c .before .before .before .before .args .s)) (c .before .before .before .loop .i) (c .before .before .loop-test .taken) (c .if1 .left))
+
+sub-result-2 : tie.Need-sub-result-2 Inv-loop μ-loop
+sub-result-2 c = search needs
+
+returns-2 : tie.Need-returns-2 Inv-loop μ-loop
+returns-2 c = omega (arith, nul-end (now (c .before .before .args .s)) (c .before .loop .i) (c .loop-test .left))
+
+pub nul-spec : {M : Type 1} → statement M
+nul-spec = tie.close (tie.spec Inv-loop μ-loop loop-holds shared-slice-read-if1 sub-result returns add-i loop-less loop-again sub-result-2 returns-2)

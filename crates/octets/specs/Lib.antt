@@ -1,0 +1,1 @@
+-- What the leaves promise is said in rules: Octets.

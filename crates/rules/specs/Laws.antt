@@ -1,0 +1,3 @@
+-- The laws of the definitions, which the proofs of every crate cite.
+pub mod Tests
+pub mod Octets
