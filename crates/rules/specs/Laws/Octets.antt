@@ -20,6 +20,14 @@ use Rattle.rules.specs.Laws.Tests.{by-test, by-le, never, both-ways, and
 pub take-rest {ℓ} : {A : Type ℓ} (at : ℕ) (s : List A) → take (length s - at) (drop at s) ≡ drop at s
 take-rest at s = take-all (length s - at) (drop at s) (omega (arith, length-drop at s))
 
+-- a loop over the first n of a list: the element at i, and what is left behind it
+pub drop-taken {ℓ} : {A : Type ℓ} (l : List A) (n i : ℕ) (z : A) → i < n → n ≤ length l → drop i (take n l) ≡ getD l i z ∷ drop (i + 1) (take n l)
+drop-taken l n i z h k =
+    rw (add-one, drop-cons (take n l) i z (omega (arith, length-take-le n l k)), getD-take n l i z h)
+
+pub drop-all {ℓ} : {A : Type ℓ} (l : List A) (n i : ℕ) → n ≤ i → drop i (take n l) ≡ []
+drop-all l n i h = drop-of-length-le (take n l) {i = i} (omega (arith, length-take n l))
+
 -- ---- `put`: bytes laid into a buffer
 
 module _ {ℓ} {A : Type ℓ} where
