@@ -1,3 +1,9 @@
 -- The laws of the definitions, which the proofs of every crate cite.
 pub mod Tests
 pub mod Octets
+pub mod Lists
+pub mod Order
+pub mod References
+pub mod Paths
+pub mod Work
+pub mod Listing
