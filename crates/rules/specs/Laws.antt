@@ -7,3 +7,7 @@ pub mod References
 pub mod Paths
 pub mod Work
 pub mod Listing
+pub mod Verdicts
+pub mod Shape
+pub mod Formed
+pub mod Listed
