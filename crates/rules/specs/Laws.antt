@@ -1,5 +1,15 @@
 -- The laws of the definitions, which the proofs of every crate cite.
 pub mod Tests
 pub mod Octets
+pub mod Lists
+pub mod Order
+pub mod Verdicts
 pub mod Names
 pub mod Reservations
+pub mod References
+pub mod Paths
+pub mod Work
+pub mod Listing
+pub mod Shape
+pub mod Formed
+pub mod Listed
