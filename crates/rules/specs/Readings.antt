@@ -21,10 +21,10 @@ use Rattle.rules.specs.Reader.{read, treeRead, rowsOf}
 use Rattle.rules.specs.References.{edition1}
 use Rattle.rules.specs.Derivation.{Request, Derived, requestJudged, derive, listOf, guestOf}
 use Rattle.rules.specs.Listing.{pathsBytes}
-use Rattle.rules.specs.Program.{Printed, program, hostJudged}
+use Rattle.rules.specs.Program.{Printed, program}
 use Rattle.rules.specs.Copy.{Asked}
 use Rattle.rules.specs.Withheld.{hidden, withheld}
-use Rattle.rules.specs.Bench.{Case, allGet, allWant, bit, numberOf, node, cells, eventsT, hostT}
+use Rattle.rules.specs.Bench.{Case, holdAll, bit, numberOf, node, cells, line, eventsT, hostT}
 
 abbrev says : List ℕ → List ℕ → Case
 says gets wants = record { gets = gets; wants = wants }
@@ -102,8 +102,8 @@ writerCases =
     ∷ says (bit (overlapping (entry 0 10 ∷ entry 2 1 ∷ entry 20 1 ∷ []))) (1 ∷ [])
     ∷ []
 
-pub writerReads : allGet writerCases ≡ allWant writerCases
-unfolding writerCases nest everything
+pub writerReads : holdAll writerCases ≡ true
+unfolding holdAll writerCases nest everything
 writerReads = refl
 
 -- ---- the reader: 0 and the node count, or the refusal's number and place
@@ -139,13 +139,6 @@ nop = be32 4
 
 abbrev finis : Bytes
 finis = be32 9
-
-unfoldable pub nested : ℕ → List Event → List Event
-nested zero es = es
-nested (suc n) es = node "a" ∷ nested n (closes 0 ∷ es)
-
-abbrev nestedIn : ℕ → List ℕ
-nestedIn n = reads (blobOf [] 0 (opens 0 [] ∷ nested n (closes 0 ∷ [])))
 
 -- what the walk does with a BEGIN when so many nodes have been opened
 abbrev counted : Step → List ℕ
@@ -186,8 +179,8 @@ headerCases =
     ∷ says (damaged 36 (be32 0xfffffffc)) (5 ∷ 0 ∷ [])
     ∷ []
 
-pub headerReads : allGet headerCases ≡ allWant headerCases
-unfolding headerCases eventsT hostT everything
+pub headerReads : holdAll headerCases ≡ true
+unfolding holdAll headerCases eventsT hostT everything
 headerReads = refl
 
 unfoldable pub shapeCases : List Case
@@ -215,8 +208,8 @@ shapeCases =
     ∷ says (reads (made (root ++ (be32 1 ++ ascii "abcd")) ab)) (6 ∷ 64 ∷ [])
     ∷ []
 
-pub shapeReads : allGet shapeCases ≡ allWant shapeCases
-unfolding shapeCases everything
+pub shapeReads : holdAll shapeCases ≡ true
+unfolding holdAll shapeCases everything
 shapeReads = refl
 
 unfoldable pub nameCases : List Case
@@ -235,23 +228,23 @@ nameCases =
     ∷ says (reads (made (root ++ (prop 0 [] ++ (endBytes ++ finis))) (closed (replicate 32 97)))) (7 ∷ 64 ∷ [])
     ∷ []
 
-pub nameReads : allGet nameCases ≡ allWant nameCases
-unfolding nameCases everything
+pub nameReads : holdAll nameCases ≡ true
+unfolding holdAll nameCases everything
 nameReads = refl
 
 unfoldable pub limitCases : List Case
 limitCases =
-    -- 8: 64 open nodes, and a 65th at its BEGIN (a BEGIN takes 8 bytes); 9: 2,048 nodes, and one more; 7 before 8 before 9
-    says (nestedIn 63) (0 ∷ 64 ∷ [])
-    ∷ says (nestedIn 64) (8 ∷ 568 ∷ [])
+    -- 8: a 64th open node, and a 65th; 9: a 2,048th node, and one more; 7 before 8 before 9
+    says (counted (opening (record { stack = replicate 63 0; count = 63; ended = false }) (ascii "a"))) (1 ∷ [])
+    ∷ says (counted (opening (record { stack = replicate 64 0; count = 64; ended = false }) (ascii "a"))) (8 ∷ [])
     ∷ says (counted (opening (record { stack = 0 ∷ []; count = 2047; ended = false }) (ascii "a"))) (1 ∷ [])
     ∷ says (counted (opening (record { stack = 0 ∷ []; count = 2048; ended = false }) (ascii "a"))) (9 ∷ [])
     ∷ says (counted (opening (record { stack = replicate 64 0; count = 2048; ended = false }) (ascii "a"))) (8 ∷ [])
     ∷ says (counted (opening (record { stack = replicate 64 0; count = 2048; ended = false }) [])) (7 ∷ [])
     ∷ []
 
-pub limitReads : allGet limitCases ≡ allWant limitCases
-unfolding limitCases nested everything
+pub limitReads : holdAll limitCases ≡ true
+unfolding holdAll limitCases everything
 limitReads = refl
 
 unfoldable pub doubleCases : List Case
@@ -264,8 +257,8 @@ doubleCases =
     ∷ says (reads (blobOf [] 0 (node "" ∷ node "a" ∷ closes 0 ∷ node "b" ∷ cells "p" [] ∷ cells "p" [] ∷ closes 0 ∷ node "a" ∷ closes 0 ∷ closes 0 ∷ []))) (10 ∷ 96 ∷ [])
     ∷ []
 
-pub doubleReads : allGet doubleCases ≡ allWant doubleCases
-unfolding doubleCases everything
+pub doubleReads : holdAll doubleCases ≡ true
+unfolding holdAll doubleCases everything
 doubleReads = refl
 
 unfoldable pub wordCases : List Case
@@ -285,8 +278,8 @@ wordCases =
     (56 ∷ 0 ∷ 0 ∷ 0 ∷ 64 ∷ 0 ∷ 1 ∷ 1 ∷ 108 ∷ 0 ∷ 1 ∷ 2 ∷ 136 ∷ 0 ∷ 0 ∷ 0 ∷ 144 ∷ 3 ∷ 0 ∷ 0 ∷ 200 ∷ 3 ∷ 1 ∷ 3 ∷ [])
     ∷ []
 
-pub wordReads : allGet wordCases ≡ allWant wordCases
-unfolding wordCases eventsT hostT everything
+pub wordReads : holdAll wordCases ≡ true
+unfolding holdAll wordCases eventsT hostT everything
 wordReads = refl
 
 -- ---- the derivation: 0, the count of paths and the lengths of list and guest, or the refusal's number and place
@@ -372,8 +365,8 @@ requestCases =
     ∷ says (granted (blobOf [] 0 (node "" ∷ node "cpus" ∷ node "cpu@0" ∷ cells "reg" (0 ∷ 0 ∷ 0 ∷ []) ∷ closes 0 ∷ closes 0 ∷ closes 0 ∷ [])) (asks [] [] (9 ∷ []))) (43 ∷ 76 ∷ [])
     ∷ []
 
-pub requestReads : allGet requestCases ≡ allWant requestCases
-unfolding requestCases cpuEvents eventsT hostT everything
+pub requestReads : holdAll requestCases ≡ true
+unfolding holdAll requestCases cpuEvents eventsT hostT everything
 requestReads = refl
 
 -- ---- the list and the copy
@@ -433,8 +426,8 @@ listCases =
     ∷ says (guestNames cpuHost (asks [] ("/" ∷ []) (0 ∷ 0 ∷ []))) (paths ("" ∷ "cpus" ∷ "cpu@0" ∷ "l2" ∷ "cpu-map" ∷ []))
     ∷ []
 
-pub listReads : allGet listCases ≡ allWant listCases
-unfolding listCases slashEvents chainEvents cpuEvents everything
+pub listReads : holdAll listCases ≡ true
+unfolding holdAll listCases slashEvents chainEvents cpuEvents everything
 listReads = refl
 
 -- ---- what is withheld: how many bytes
@@ -483,8 +476,8 @@ secretCases =
     ∷ says (isHidden 83 ++ (isHidden 84 ++ (isHidden 87 ++ isHidden 88))) (0 ∷ 1 ∷ 1 ∷ 0 ∷ [])
     ∷ []
 
-pub secretReads : allGet secretCases ≡ allWant secretCases
-unfolding secretCases secretTree hiddenAmong hiddenFrom everything
+pub secretReads : holdAll secretCases ≡ true
+unfolding holdAll secretCases secretTree hiddenAmong hiddenFrom everything
 secretReads = refl
 
 -- ---- the program's text
@@ -492,30 +485,25 @@ secretReads = refl
 abbrev prints : Bytes → Bytes → Bytes
 prints host input = program edition1 host input .text
 
-abbrev refusal : String → Bytes
-refusal s = ascii s ++ (10 ∷ [])
-
 unfoldable pub programCases : List Case
 programCases =
     -- a line fault is before all else, a list's fault behind the reader's refusals, at its offset in the list
-    says (prints [] (ascii "c")) (refusal "refused 41 at 0")
-    ∷ says (prints [] (refusal "c ")) (refusal "refused 1 at 0")
-    ∷ says (prints hostT (refusal "c /soc" ++ refusal "c ")) (refusal "refused 41 at 5")
+    says (prints [] (ascii "c")) (line "refused 41 at 0")
+    ∷ says (prints [] (line "c ")) (line "refused 1 at 0")
+    ∷ says (prints hostT (line "c /soc" ++ line "c ")) (line "refused 41 at 5")
     -- empty lines, one fault or another, the first line that has one
-    ∷ says (prints hostT (10 ∷ [])) (refusal "refused 41 at 0")
-    ∷ says (prints hostT (refusal "c /clk" ++ (10 ∷ []))) (refusal "refused 41 at 7")
-    ∷ says (prints hostT (refusal "c /clk" ++ (refusal "i 18446744073709551616" ++ ascii "z"))) (refusal "refused 41 at 7")
-    ∷ says (prints hostT (refusal "c /clk" ++ (99 ∷ 32 ∷ 0 ∷ 10 ∷ []))) (refusal "refused 41 at 7")
-    ∷ says (prints hostT (refusal "i ")) (refusal "refused 41 at 0")
-    ∷ says (prints hostT (ascii "i 1" ++ (13 ∷ 10 ∷ []))) (refusal "refused 41 at 0")
+    ∷ says (prints hostT (10 ∷ [])) (line "refused 41 at 0")
+    ∷ says (prints hostT (line "c /clk" ++ (10 ∷ []))) (line "refused 41 at 7")
+    ∷ says (prints hostT (line "c /clk" ++ (line "i 18446744073709551616" ++ ascii "z"))) (line "refused 41 at 7")
+    ∷ says (prints hostT (line "c /clk" ++ (99 ∷ 32 ∷ 0 ∷ 10 ∷ []))) (line "refused 41 at 7")
+    ∷ says (prints hostT (line "i ")) (line "refused 41 at 0")
+    ∷ says (prints hostT (ascii "i 1" ++ (13 ∷ 10 ∷ []))) (line "refused 41 at 0")
     -- leading zeros; the largest id; the last line without its newline; nothing asked
-    ∷ says (prints hostT (refusal "i 000000000000000000000000000000")) (refusal "refused 44 at 0")
-    ∷ says (prints hostT (ascii "i 18446744073709551615")) (refusal "refused 44 at 0")
-    ∷ says (prints hostT []) (refusal "paths 0" ++ refusal "guest 72")
-    ∷ says (numberOf (hostJudged (replicate 65537 0))) (3 ∷ [])
-    ∷ says (numberOf (hostJudged (replicate 65536 0))) (0 ∷ [])
+    ∷ says (prints hostT (line "i 000000000000000000000000000000")) (line "refused 44 at 0")
+    ∷ says (prints hostT (ascii "i 18446744073709551615")) (line "refused 44 at 0")
+    ∷ says (prints hostT []) (line "paths 0" ++ line "guest 72")
     ∷ []
 
-pub programReads : allGet programCases ≡ allWant programCases
-unfolding programCases eventsT hostT everything
+pub programReads : holdAll programCases ≡ true
+unfolding holdAll programCases eventsT hostT everything
 programReads = refl
