@@ -1,14 +1,15 @@
 -- The laws of byte strings: what is laid into a buffer, numbers and their bytes, padding, NUL, comparing.
 use mathlib.Core.Path.{_≡_, refl, sym, ap, ap₂, _∙_}
+use mathlib.Core.Logic.{_≢_}
 use mathlib.Core.Bool.{true, false, _&&_, _||_}
 use mathlib.Core.List.{List, [], _∷_, _++_, append-assoc, append-nil, reverse, reverse-append, reverse-reverse}
 use Prim.Native.Nat.{ℕ, zero, suc, _+_, _-_, _*_, _/_, _%_, _≤_, _<_, min}
-use native.Mathlib.Nat.{add-zero, add-assoc, div-div-eq-div-mul, div-add-mod', mod-eq-of-lt}
+use native.Mathlib.Nat.{add-zero, zero-add, add-assoc, div-div-eq-div-mul, div-add-mod', mod-eq-of-lt}
 use native.Mathlib.Omega.{arith}
 use native.Mathlib.Numerals.{add-one, add-two, add-three}
 use lib.Dec.{eqb}
 use lib.ListN.{length, take, drop, set, getD, take-append-drop, length-append, length-take, length-drop, length-replicate, getD-replicate, drop-of-length-le, List·getD-append, List·getD-eq-default, length-reverse}
-use lib.Seq.{length-take-le, take-add, take-length, take-all, take-at, drop-at, drop-drop, take-take, take-append-le, take-append-add, drop-append-seam, take-append-seam, getD-append-add, getD-take, getD-drop, sets-eq, set-split, paste, paste-zero, paste-suc, drop-cons, append-snoc}
+use lib.Seq.{length-take-le, take-add, take-length, take-all, take-at, drop-at, drop-drop, take-take, take-append-le, take-append-add, drop-append-seam, take-append-seam, getD-append-add, getD-take, getD-drop, getD-set-same, getD-set-other, sets-eq, set-split, paste, paste-zero, paste-suc, drop-cons, append-snoc}
 use borrow.Author.Tests.{eq-eqb, ne-eqb, eqb-true, eqb-false, ltb-true}
 use Rattle.rules.specs.Octets.{Bytes, byteAt, wordAt, longAt, be32, be64, words32, words64, zeros, padded, filled, part, put, lay, nulIn, hasNul, same, begins, ends, holds}
 use Rattle.rules.specs.Laws.Tests.{by-test, by-le, never, both-ways, and-true, not-passed}
@@ -60,6 +61,10 @@ module _ {ℓ} {A : Type ℓ} where
   pub put-nil : (d : List A) (at : ℕ) → put d at [] ≡ d
   unfolding put
   put-nil d at = rw (add-zero, take-append-drop)
+
+  put-front : (d xs : List A) → put d 0 xs ≡ xs ++ drop (length xs) d
+  unfolding put
+  put-front d xs = rw (zero-add (length xs))
 
   pub length-put : (d : List A) (at : ℕ) (bs : List A) → at + length bs ≤ length d → length (put d at bs) ≡ length d
   length-put d at bs h =
@@ -156,6 +161,18 @@ module _ {ℓ} {A : Type ℓ} where
   pub lay-one : (d : List A) (at : ℕ) (x : A) → at < length d → lay d at (x ∷ []) ≡ set d at x
   lay-one d at x h =
       lay-put d at (x ∷ []) (omega arith) ∙ put-eq d at (x ∷ []) ∙ rw (add-one, append-snoc) (sym (set-split d at x h))
+
+  pub lay-one-same : (d : List A) (at : ℕ) (x z : A) → at < length d → getD (lay d at (x ∷ [])) at z ≡ x
+  lay-one-same d at x z h = rw (lay-one d at x h) (getD-set-same d at x z h)
+
+  pub lay-one-other : (d : List A) (at : ℕ) (x z : A) (i : ℕ) → i ≢ at → getD (lay d at (x ∷ [])) i z ≡ getD d i z
+  lay-one-other d at x z i ne = by-le (length d) at
+      (λ h. rw (lay-past d at (x ∷ []) h))
+      (λ h. rw (lay-one d at x h) (getD-set-other d at i x z ne))
+
+  -- from the front
+  pub lay-front : (d xs : List A) → length xs ≤ length d → lay d 0 xs ≡ xs ++ drop (length xs) d
+  lay-front d xs h = lay-put d 0 xs (omega arith) ∙ put-front d xs
 
   -- what does not fit any more makes no difference
   pub lay-more : (d : List A) (at : ℕ) (xs ys : List A) → length d ≤ at + length xs → lay d at xs ≡ lay d at (xs ++ ys)
@@ -366,11 +383,11 @@ pub nul-end : (s : Bytes) (i : ℕ) → length s ≤ i → nulIn (drop i s) ≡ 
 unfolding nulIn
 nul-end s i h = rw drop-of-length-le
 
-nul-cons : (b : ℕ) (s : Bytes) → (b ≡ 0 → ⊥) → nulIn (b ∷ s) ≡ suc (nulIn s)
+pub nul-cons : (b : ℕ) (s : Bytes) → (b ≡ 0 → ⊥) → nulIn (b ∷ s) ≡ suc (nulIn s)
 unfolding nulIn
 nul-cons b s h = rw (ne-eqb b 0 h, nulIn)
 
-nul-first : (s : Bytes) → nulIn (0 ∷ s) ≡ 0
+pub nul-first : (s : Bytes) → nulIn (0 ∷ s) ≡ 0
 unfolding nulIn
 nul-first s = refl
 
@@ -396,6 +413,12 @@ nul-before (b ∷ s) zero h e = let q : nulIn (b ∷ s) ≡ 0 = rw e (nul-first 
 nul-before (b ∷ s) (suc i) h e = by-test (eqb b 0)
     (λ t. let q : nulIn (b ∷ s) ≡ 0 = rw (eqb-true b 0 t) (nul-first s) in omega arith)
     (λ t. nul-before s i (omega (arith, nul-cons b s (eqb-false b 0 t))) e)
+
+-- a name closed by NUL, whatever stands behind it
+pub nul-closed : (name rest : Bytes) → ((i : ℕ) → i < length name → byteAt name i ≡ 0 → ⊥) → nulIn (name ++ 0 ∷ rest) ≡ length name
+nul-closed [] rest h = nul-first rest
+nul-closed (b ∷ name) rest h =
+    nul-cons b (name ++ 0 ∷ rest) (h 0 (omega arith)) ∙ ap suc (nul-closed name rest (λ i k. h (suc i) (omega arith)))
 
 pub has-nul-not : (s : Bytes) → ((i : ℕ) → i < length s → byteAt s i ≡ 0 → ⊥) → hasNul s ≡ false
 has-nul-not s h = not-passed (hasNul s) (λ t. let k = ltb-true (nulIn s) (length s) t in h (nulIn s) k (nul-byte s k))
