@@ -77,14 +77,14 @@ pub fn long(s: &[u8], at: usize) -> u64
 pub fn nul(s: &[u8], at: usize) -> usize
     ensures { λ r. ⌜ r ≡ nulIn (drop at (now (s .entry))) ⌝ }
 {
-    let mut i = at;
-    while i < s.len() {
-        if s[i] == 0 {
-            return i - at;
+    let mut end = at;
+    while end < s.len() {
+        if s[end] == 0 {
+            return end - at;
         }
-        i += 1;
+        end += 1;
     }
-    i - at
+    end - at
 }
 
 // The n bytes from a place on; those that there are, where there are fewer.

@@ -1,5 +1,5 @@
 -- `any_overlap` meets its contract. The invariant: the answer is that for the pairs whose later entry stands at i or behind it.
-use mathlib.Core.Path.{_≡_, refl, sym, ap, _∙_}
+use mathlib.Core.Path.{_≡_, sym, ap, _∙_}
 use mathlib.Core.List.{[]}
 use Prim.Native.Nat.{_-_, _≤_}
 use native.Mathlib.Omega.{arith}

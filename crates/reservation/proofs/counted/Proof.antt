@@ -1,7 +1,6 @@
 -- `counted` meets its contract.
 use native.Mathlib.Omega.{arith}
 use Rattle.rules.specs.Ceilings.{reservationCeiling}
-use borrow.Author.Needs.{needs}
 use Rattle.reservation.proofs.counted.Statement.{statement}
 use Rattle.reservation.proofs.counted.Tie as tie
 

@@ -1,20 +1,19 @@
 -- The laws of memory reservations. Judging neighbours in address order is judging every pair, whatever the entries are: that is
 -- how code judges without sorting.
-use mathlib.Core.Path.{_≡_, refl, sym, ap, _∙_}
-use mathlib.Core.Logic.{_⊎_, inl, inr}
-use mathlib.Core.Bool.{Bool, true, false, not, _&&_, _||_}
+use mathlib.Core.Path.{_≡_, refl, sym, _∙_}
+use mathlib.Core.Bool.{Bool, true, false, _||_}
 use mathlib.Core.List.{List, [], _∷_, _++_}
-use Prim.Native.Nat.{ℕ, zero, suc, _+_, _≤_, _<_, max}
+use Prim.Native.Nat.{ℕ, _+_, _≤_, _<_}
 use native.Mathlib.Nat.{le-of-lt}
 use native.Mathlib.Omega.{arith}
 use native.Mathlib.Numerals.{add-one}
 use lib.Dec.{eqb, leb, ltb}
-use lib.ListN.{length, take, drop, getD, drop-of-length-le, length-take}
-use lib.Seq.{drop-cons, take-suc, getD-take, length-take-le}
-use borrow.Author.Tests.{leb-true, leb-false, le-leb, lt-leb, ltb-true, ltb-false, lt-ltb, le-ltb, eqb-false}
-use Rattle.rules.specs.Reservations.{Entry, invalid, made, anyInvalid, insert, sortedFrom, neighbours, overlapping}
+use lib.ListN.{length, take, drop, getD}
+use lib.Seq.{take-suc}
+use borrow.Author.Tests.{le-leb, lt-leb, ltb-true, lt-ltb, eqb-false}
+use Rattle.rules.specs.Reservations.{Entry, invalid, anyInvalid, insert, sortedFrom, neighbours, overlapping}
 use Rattle.rules.specs.Laws.Octets.{drop-taken, drop-all}
-use Rattle.rules.specs.Laws.Tests.{by-test, by-le, never, both-ways, or-cases, or-false, or-left, or-right, not-passed, ltb-cong}
+use Rattle.rules.specs.Laws.Tests.{by-le, never, or-false, or-right, not-passed}
 
 -- ---- every pair
 

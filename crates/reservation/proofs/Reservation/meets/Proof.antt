@@ -1,5 +1,5 @@
 -- `meets` meets its contract: the sum in the rule is a difference in the code, which cannot wrap.
-use mathlib.Core.Path.{_≡_, sym, _∙_}
+use mathlib.Core.Path.{sym, _∙_}
 use Prim.Native.Nat.{_+_, _-_}
 use native.Mathlib.Omega.{arith}
 use Rattle.rules.specs.Laws.Tests.{ltb-cong}

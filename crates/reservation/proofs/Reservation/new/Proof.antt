@@ -1,5 +1,4 @@
 -- `new` meets its contract.
-use mathlib.Core.Path.{_≡_, sym, _∙_}
 use Rattle.rules.specs.Reservations.{made}
 use borrow.Author.Needs.{needs}
 use Rattle.reservation.proofs.Reservation.new.Statement.{statement}
