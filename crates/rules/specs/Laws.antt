@@ -11,3 +11,4 @@ pub mod Verdicts
 pub mod Shape
 pub mod Formed
 pub mod Listed
+pub mod Secrecy

@@ -1,0 +1,3 @@
+-- Demand 3: nothing leaks.
+pub mod Alike
+pub mod Tokens
