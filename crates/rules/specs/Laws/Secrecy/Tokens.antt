@@ -136,8 +136,8 @@ module _ (s c : Bytes) (size : length s ≡ length c) where
   unfolding beginAt
   begin-same b h =
       let e : nulIn (drop b s) ≡ nulIn (drop b c) =
-          nul-same (drop b s) (drop b c) (simp (length-drop, size))
-          (λ i p. getD-drop b s i 0 ∙ h (b + i) (omega arith) (omega arith) ∙ sym (getD-drop b c i 0)) in
+      nul-same (drop b s) (drop b c) (simp (length-drop, size))
+      (λ i p. getD-drop b s i 0 ∙ h (b + i) (omega arith) (omega arith) ∙ sym (getD-drop b c i 0)) in
       rw (e, size)
 
   propAt-same : (b : ℕ) → Clear s c b (b + 8) → propAt s b ≡ propAt c b
