@@ -12,3 +12,4 @@ pub mod Shape
 pub mod Formed
 pub mod Listed
 pub mod Secrecy
+pub mod Refusals
