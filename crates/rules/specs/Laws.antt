@@ -13,3 +13,4 @@ pub mod Formed
 pub mod Listed
 pub mod Secrecy
 pub mod Refusals
+pub mod Copy
