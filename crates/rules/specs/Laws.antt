@@ -14,3 +14,5 @@ pub mod Listed
 pub mod Secrecy
 pub mod Refusals
 pub mod Copy
+pub mod Nested
+pub mod Sieve
