@@ -16,3 +16,4 @@ pub mod Refusals
 pub mod Copy
 pub mod Nested
 pub mod Sieve
+pub mod Guest
