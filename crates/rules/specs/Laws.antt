@@ -13,3 +13,9 @@ pub mod Listing
 pub mod Shape
 pub mod Formed
 pub mod Listed
+pub mod Secrecy
+pub mod Refusals
+pub mod Copy
+pub mod Nested
+pub mod Sieve
+pub mod Guest

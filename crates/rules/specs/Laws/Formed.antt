@@ -63,8 +63,8 @@ opened-sound (i ∷ is) count at name es small o h zero l =
     record {
       root = λ (e : count + 0 ≡ 0). absurd (omega arith);
       up = λ p. omega arith;
-      named = λ p e. reads-named name o e;
-      plain = λ m. reads-plain name o m;
+      named = λ p e. reads-named name (o .0) e;
+      plain = λ m. reads-plain name (o .0) m;
     }
 opened-sound stack count at name es small o h (suc j) l =
     let e : suc count + j ≡ count + suc j = omega arith in

@@ -7,7 +7,7 @@ use Prim.Native.Nat.{ℕ, zero, suc, _+_, _≤_, _<_}
 use native.Mathlib.Omega.{arith}
 use lib.ListN.{length, take, drop}
 use lib.Dec.{eqb, leb}
-use borrow.Author.Tests.{eqb-true, eqb-false, not-true}
+use borrow.Author.Tests.{eqb-true, eqb-false, leb-false, not-true}
 use Rattle.rules.specs.Ceilings.{nodeCeiling, openCeiling, nodeNameCeiling}
 use Rattle.rules.specs.Octets.{Bytes}
 use Rattle.rules.specs.Lists.{every, oneOf}
@@ -71,10 +71,10 @@ reads-plain s h m =
 
 -- ---- steps
 
--- which node a BEGIN opens: the root, or a node in a node, with a name that reads
+-- which node a BEGIN opens: the root, or a node in a node, with a name that reads, and room for it
 abbrev pub Opens : List ℕ → ℕ → Bytes → Type 0
 Opens [] count name = (count ≡ 0) × (length name ≡ 0)
-Opens (i ∷ is) count name = nodeNameReads name ≡ true
+Opens (i ∷ is) count name = (nodeNameReads name ≡ true) × (length (i ∷ is) < openCeiling) × (count < nodeCeiling)
 
 module _ (rest : Walk → Verdict) (place : ℕ) where
   -- a walk that passes is done, or goes on
@@ -97,7 +97,7 @@ module _ (rest : Walk → Verdict) (place : ℕ) where
       (λ f. gives-refuses tt 8 place (rw (e, f) at h))
       (λ f. by-test (leb nodeCeiling count)
       (λ g. gives-refuses tt 9 place (rw (e, f, g) at h))
-      (λ g. (rw (e, f, g) at h, e))))
+      (λ g. (rw (e, f, g) at h, (e, leb-false openCeiling (length (i ∷ is)) f, leb-false nodeCeiling count g)))))
       (λ e. gives-refuses tt 7 place (rw e at h))
 
   -- END_NODE closes an open node
