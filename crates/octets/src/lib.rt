@@ -33,6 +33,7 @@ fn byte_behind(s: &[u8], at: usize, k: usize) -> u8
     if inside(s.len(), at, k) { s[at + k] } else { 0 }
 }
 
+// A byte as a word. Its bound goes with it, so that no product of it can wrap.
 fn wide(x: u8) -> u32
     ensures { λ r. ⌜ (r ≡ x) × (r < 256) ⌝ }
 {
@@ -202,7 +203,7 @@ pub fn put_zeros(d: &mut [u8], at: usize, n: usize)
     }
 }
 
-// Lays a 32-bit number into d, the highest byte first, as `put_bytes` does.
+// Lays a 32-bit number into d, the highest byte first, as `put_bytes` does. All but the last few places take four stores.
 pub fn put_word(d: &mut [u8], at: usize, v: u32)
     ensures { λ _. ⌜ now (d .exit) ≡ lay (now (d .entry)) at (be32 v) ⌝ }
 {
