@@ -5,7 +5,8 @@ use native.Mathlib.Omega.{arith}
 use lib.ListN.{length, drop}
 use denote.Ref.{now}
 use borrow.Author.Tests.{not-true, not-false}
-use Rattle.rules.specs.Names.{every, nodeChar}
+use Rattle.rules.specs.Lists.{every}
+use Rattle.rules.specs.Names.{nodeChar}
 use Rattle.rules.specs.Laws.Names.{every-hit, every-miss, every-end}
 use borrow.Author.Needs.{needs}
 use Rattle.names.proofs.node_name_chars.Statement.{statement}

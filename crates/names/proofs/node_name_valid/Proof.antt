@@ -8,7 +8,8 @@ use lib.ListN.{length, take, drop}
 use lib.Seq.{length-take-le}
 use denote.Ref.{now}
 use Rattle.rules.specs.Ceilings.{nodeNameCeiling}
-use Rattle.rules.specs.Names.{every, nodeChar}
+use Rattle.rules.specs.Lists.{every}
+use Rattle.rules.specs.Names.{nodeChar}
 use Rattle.rules.specs.Laws.Octets.{take-rest}
 use Rattle.rules.specs.Laws.Names.{node-empty, node-rule, at-le, every-end}
 use borrow.Author.Needs.{needs}

@@ -3,7 +3,8 @@ use mathlib.Core.Path.{_≡_, refl, sym, ap, _∙_}
 use mathlib.Core.Bool.{true, false, not}
 use Prim.Native.Nat.{ℕ, _+_, _≤_, _<_}
 use native.Mathlib.Omega.{arith}
-use Rattle.rules.specs.Names.{nodeChar, oneOf}
+use Rattle.rules.specs.Lists.{oneOf}
+use Rattle.rules.specs.Names.{nodeChar}
 use Rattle.rules.specs.Laws.Tests.{by-le}
 use Rattle.rules.specs.Laws.Names.{steady, all-in, none-in}
 use borrow.Author.Needs.{needs}

@@ -14,7 +14,8 @@ use lib.Seq.{drop-cons, length-take-le, getD-take, getD-drop}
 use borrow.Author.Tests.{eq-eqb, ne-eqb, eqb-true, eqb-false, leb-true, ltb-true, le-leb, lt-leb, not-true}
 use Rattle.rules.specs.Ceilings.{nodeNameCeiling, propertyNameCeiling}
 use Rattle.rules.specs.Octets.{Bytes, byteAt, hasNul}
-use Rattle.rules.specs.Names.{within, oneOf, every, nodeChar, propertyChar, atSign, beforeAt, afterAt, nodeNameValid, propertyNameValid, nodeNameReads}
+use Rattle.rules.specs.Lists.{oneOf, every}
+use Rattle.rules.specs.Names.{within, nodeChar, propertyChar, atSign, beforeAt, afterAt, nodeNameValid, propertyNameValid, nodeNameReads}
 use Rattle.rules.specs.Laws.Octets.{has-nul-not}
 use Rattle.rules.specs.Laws.Tests.{by-test, by-le, never, and-true, or-cases, or-right, or-nothing}
 
