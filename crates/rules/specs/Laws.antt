@@ -2,3 +2,4 @@
 pub mod Tests
 pub mod Octets
 pub mod Names
+pub mod Tokens
