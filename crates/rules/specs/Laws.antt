@@ -2,4 +2,7 @@
 pub mod Tests
 pub mod Octets
 pub mod Names
+pub mod Blob
 pub mod Tokens
+pub mod Events
+pub mod Reader

@@ -1,0 +1,2 @@
+-- What the proofs of the reader share.
+pub mod Heads
