@@ -17,33 +17,19 @@ pub enum Refusal {
     // 5: the blocks are not aligned, in order, apart and inside, or the reservations are not closed.
     Layout,
     // 6: the tokens break the shape of a structure, or an item is cut.
-    Shape {
-        at: usize,
-    },
+    Shape { at: usize },
     // 7: a name breaks its rule.
-    Name {
-        at: usize,
-    },
+    Name { at: usize },
     // 8: a 65th node opens.
-    Deep {
-        at: usize,
-    },
+    Deep { at: usize },
     // 9: a 2,049th node opens.
-    Many {
-        at: usize,
-    },
+    Many { at: usize },
     // 10: two siblings, or two properties of a node, share a name.
-    Doubled {
-        at: usize,
-    },
+    Doubled { at: usize },
     // 11: a phandle or a count of cells is not 4 bytes, or a node's two phandles disagree.
-    Cells {
-        at: usize,
-    },
+    Cells { at: usize },
     // 12: two nodes have one phandle.
-    Shared {
-        at: usize,
-    },
+    Shared { at: usize },
 }
 
 // How many nodes the blob has, or why it is refused.

@@ -65,6 +65,7 @@ search-on b from limit at i h e = go (i .fuel) (i .left) (i .enough) (i .same)
   where
     inside : at < length b
     inside = by-le (length b) at (λ k. never (zeroPair b at) (zero-past b at k) e) (λ k. k)
+
     go : (f : ℕ) → 0 < f → length b < f + at → missing (entriesFrom f b at limit) ≡ missing (entriesFrom (suc (length b)) b from limit) → Searched b from limit (at + 16)
     go zero p q r = absurd (let z : ⊥ = omega arith in z)
     go (suc f) p q r = record { fuel = f; left = omega (arith, inside); enough = omega arith; same = sym (entries-more f b at limit h e) ∙ r }
