@@ -1,6 +1,7 @@
 // Reads a devicetree blob: judges its header, its shape, its names and its phandles, and leaves a table of its nodes in the
 // work space that the caller lends. Nothing is copied, and nothing but that work space is written.
 mod header;
+mod shape;
 
 // Why a blob is refused, in the order in which it is judged. `at` is the blob offset of the first offending token.
 pub enum Refusal {

@@ -7,9 +7,10 @@ use native.Mathlib.Omega.{arith}
 use native.Mathlib.Numerals.{add-one}
 use lib.ListN.{length, getD, drop, set, replicate, length-append, length-drop, length-set, length-replicate, getD-replicate, List·getD-append}
 use lib.Seq.{drop-at, set-at, set-append-left}
-use Rattle.rules.specs.Ceilings.{workWords}
-use Rattle.rules.specs.Octets.{zeros, put, lay}
-use Rattle.rules.specs.Tree.{Node, Tree}
+use Rattle.rules.specs.Ceilings.{workWords, nodeCeiling}
+use Rattle.rules.specs.Octets.{Bytes, zeros, put, lay}
+use Rattle.rules.specs.Events.{Property, Event, opens, has, closes}
+use Rattle.rules.specs.Tree.{Node, Tree, top, rest, nodesFrom}
 use Rattle.rules.specs.Reader.{spaceOf}
 use Rattle.rules.specs.Laws.Octets.{length-zeros, lay-put}
 
@@ -91,6 +92,29 @@ pub starts-length : (t : Tree) → length (startsOf t) ≡ 4 * length t
 unfolding startsOf
 starts-length [] = refl
 starts-length (n ∷ ns) = omega (arith, starts-length ns)
+
+-- the rows of a tree, event by event
+pub starts-opens : (stack : List ℕ) (next place : ℕ) (name : Bytes) (es : List Event)
+    → startsOf (nodesFrom stack next (opens place name ∷ es)) ≡ startOf place (top stack) ++ startsOf (nodesFrom (next ∷ stack) (suc next) es)
+unfolding nodesFrom startsOf
+starts-opens stack next place name es = refl
+
+pub starts-has : (stack : List ℕ) (next : ℕ) (p : Property) (es : List Event) → startsOf (nodesFrom stack next (has p ∷ es)) ≡ startsOf (nodesFrom stack next es)
+unfolding nodesFrom
+starts-has stack next p es = refl
+
+pub starts-closes : (stack : List ℕ) (next place : ℕ) (es : List Event) → startsOf (nodesFrom stack next (closes place ∷ es)) ≡ startsOf (nodesFrom (rest stack) next es)
+unfolding nodesFrom
+starts-closes stack next place es = refl
+
+pub starts-none : (stack : List ℕ) (next : ℕ) → startsOf (nodesFrom stack next []) ≡ []
+unfolding nodesFrom startsOf
+starts-none stack next = refl
+
+-- there is room for a row of each node
+pub table-fits : 4 * nodeCeiling ≤ workWords
+unfolding nodeCeiling workWords
+table-fits = omega arith
 
 -- two words make a row
 pub space-row : (ws d : List ℕ) (m a b : ℕ) → m ≡ length ws → m + 4 ≤ workWords → set (set (spaceOf ws d) m a) (m + 1) b ≡ spaceOf (ws ++ startOf a b) d
