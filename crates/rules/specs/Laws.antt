@@ -6,6 +6,10 @@ pub mod Order
 pub mod Verdicts
 pub mod Names
 pub mod Reservations
+pub mod Blob
+pub mod Tokens
+pub mod Events
+pub mod Reader
 pub mod References
 pub mod Paths
 pub mod Work
