@@ -1,3 +1,4 @@
 -- The laws of the definitions, which the proofs of every crate cite.
 pub mod Tests
 pub mod Octets
+pub mod Writer
