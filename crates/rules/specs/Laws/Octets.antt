@@ -10,8 +10,8 @@ use native.Mathlib.Numerals.{add-one, add-two, add-three}
 use lib.Dec.{eqb, ltb, leb}
 use lib.ListN.{length, take, drop, set, getD, replicate, take-append-drop, length-append, length-take, length-drop, length-set, length-replicate, getD-replicate, drop-of-length-le, List·getD-append, List·getD-eq-default, length-reverse}
 use lib.Seq.{length-take-le, take-length, take-all, take-at, drop-at, drop-drop, take-take, take-append-le, take-append-add, drop-append-add, getD-append-add, getD-append-seam, getD-take, getD-drop, getD-at, sets-eq, set-split, paste, paste-zero, paste-suc, drop-cons, take-suc, append-snoc, ext-getD}
-use borrow.Author.Tests.{eq-eqb, ne-eqb, eqb-true, eqb-false}
-use Rattle.rules.specs.Octets.{Bytes, byteAt, wordAt, longAt, be32, be64, zeros, padded, filled, put, lay, nulIn, same, begins, ends, holds}
+use borrow.Author.Tests.{eq-eqb, ne-eqb, eqb-true, eqb-false, ltb-true}
+use Rattle.rules.specs.Octets.{Bytes, byteAt, wordAt, longAt, be32, be64, zeros, padded, filled, put, lay, nulIn, hasNul, same, begins, ends, holds}
 use Rattle.rules.specs.Laws.Tests.{by-test, by-le, never, both-ways, and-true, or-nothing, not-passed}
 
 -- ---- parts
@@ -19,6 +19,14 @@ use Rattle.rules.specs.Laws.Tests.{by-test, by-le, never, both-ways, and
 -- `&s[at..]`, as a check states it
 pub take-rest {ℓ} : {A : Type ℓ} (at : ℕ) (s : List A) → take (length s - at) (drop at s) ≡ drop at s
 take-rest at s = take-all (length s - at) (drop at s) (omega (arith, length-drop at s))
+
+-- a loop over the first n of a list: the element at i, and what is left behind it
+pub drop-taken {ℓ} : {A : Type ℓ} (l : List A) (n i : ℕ) (z : A) → i < n → n ≤ length l → drop i (take n l) ≡ getD l i z ∷ drop (i + 1) (take n l)
+drop-taken l n i z h k =
+    rw (add-one, drop-cons (take n l) i z (omega (arith, length-take-le n l k)), getD-take n l i z h)
+
+pub drop-all {ℓ} : {A : Type ℓ} (l : List A) (n i : ℕ) → n ≤ i → drop i (take n l) ≡ []
+drop-all l n i h = drop-of-length-le (take n l) {i = i} (omega (arith, length-take n l))
 
 -- ---- `put`: bytes laid into a buffer
 
@@ -212,6 +220,40 @@ nul-more s i h e = rw (drop-cons s i 0, ne-eqb (byteAt s i) 0 e, nulIn) (rw (add
 pub nul-end : (s : Bytes) (i : ℕ) → length s ≤ i → nulIn (drop i s) ≡ 0
 unfolding nulIn
 nul-end s i h = rw drop-of-length-le
+
+nul-cons : (b : ℕ) (s : Bytes) → (b ≡ 0 → ⊥) → nulIn (b ∷ s) ≡ suc (nulIn s)
+unfolding nulIn
+nul-cons b s h = rw (ne-eqb b 0 h, nulIn)
+
+nul-first : (s : Bytes) → nulIn (0 ∷ s) ≡ 0
+unfolding nulIn
+nul-first s = refl
+
+-- it stands inside, or at the end
+pub nul-le : (s : Bytes) → nulIn s ≤ length s
+unfolding nulIn
+nul-le [] = omega arith
+nul-le (b ∷ s) = by-test (eqb b 0)
+    (λ e. rw (eqb-true b 0 e, nul-first s) (omega arith))
+    (λ e. omega (arith, nul-cons b s (eqb-false b 0 e), nul-le s))
+
+-- where one stands inside, it is a NUL
+pub nul-byte : (s : Bytes) → nulIn s < length s → byteAt s (nulIn s) ≡ 0
+nul-byte [] h = absurd (omega arith)
+nul-byte (b ∷ s) h = by-test (eqb b 0)
+    (λ e. rw (eqb-true b 0 e, nul-first s))
+    (λ e. let q = nul-cons b s (eqb-false b 0 e) in rw q (nul-byte s (omega arith)))
+
+-- and none stands before it
+pub nul-before : (s : Bytes) (i : ℕ) → i < nulIn s → byteAt s i ≡ 0 → ⊥
+nul-before [] i h e = omega (arith, nul-le [])
+nul-before (b ∷ s) zero h e = let q : nulIn (b ∷ s) ≡ 0 = rw e (nul-first s) in omega arith
+nul-before (b ∷ s) (suc i) h e = by-test (eqb b 0)
+    (λ t. let q : nulIn (b ∷ s) ≡ 0 = rw (eqb-true b 0 t) (nul-first s) in omega arith)
+    (λ t. nul-before s i (omega (arith, nul-cons b s (eqb-false b 0 t))) e)
+
+pub has-nul-not : (s : Bytes) → ((i : ℕ) → i < length s → byteAt s i ≡ 0 → ⊥) → hasNul s ≡ false
+has-nul-not s h = not-passed (hasNul s) (λ t. let k = ltb-true (nulIn s) (length s) t in h (nulIn s) k (nul-byte s k))
 
 -- ---- comparing
 

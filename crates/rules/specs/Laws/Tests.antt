@@ -30,6 +30,9 @@ both-ways false false f g = refl
 pub ltb-cong : (a b c e : ℕ) → (a < b → c < e) → (c < e → a < b) → ltb a b ≡ ltb c e
 ltb-cong a b c e f g = both-ways (ltb a b) (ltb c e) (λ h. lt-ltb c e (f (ltb-true a b h))) (λ h. lt-ltb a b (g (ltb-true c e h)))
 
+pub ltb-leb : (a b c e : ℕ) → (a < b → c ≤ e) → (c ≤ e → a < b) → ltb a b ≡ leb c e
+ltb-leb a b c e f g = both-ways (ltb a b) (leb c e) (λ h. le-leb c e (f (ltb-true a b h))) (λ h. lt-ltb a b (g (leb-true c e h)))
+
 pub and-true : (a b : Bool) → (a && b) ≡ true → (a ≡ true) × (b ≡ true)
 and-true true b h = (refl, h)
 and-true false b h = never true refl (sym h)
