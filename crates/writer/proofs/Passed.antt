@@ -99,7 +99,7 @@ possible w a b e =
     record { high = high; low = low; deep = omega arith; inData = omega arith; dataSmall = omega arith; inStrings = omega arith; stringsSmall = omega arith }
 
 -- there is room for so many bytes
-fits : (lent after : ℕ) → noRoom lent after .fails ≡ false → (after ≤ lent) × (after ≤ 1048576)
+pub fits : (lent after : ℕ) → noRoom lent after .fails ≡ false → (after ≤ lent) × (after ≤ 1048576)
 unfolding blobCeiling
 fits lent after e =
     let h : after ≤ room lent = ltb-false _ _ e in

@@ -4,11 +4,10 @@ use crate::FdtWriter;
 use rules::BLOB_CEILING;
 use rules::OPEN_CEILING;
 ghost use mathlib.Core.Path.{_≡_};
-ghost use mathlib.Core.Bool.{_||_};
 ghost use Prim.Native.Nat.{_+_, _*_, _/_, _≤_, _<_, _^_};
 ghost use lib.Dec.{ltb};
 ghost use lib.ListN.{length};
-ghost use Rattle.rules.specs.Octets.{padded, hasNul};
+ghost use Rattle.rules.specs.Octets.{if_then_else_, padded, hasNul};
 ghost use Rattle.rules.specs.Writer.{room, impossible, beginJudged, endJudged, finishJudged};
 ghost use Rattle.writer.specs.Meaning.{stateOf};
 ghost use Rattle.writer.specs.Judged.{verdictOf, placeOf, placed};
@@ -140,4 +139,66 @@ pub(crate) fn finish(w: FdtWriter, data_lent: usize, strings_lent: usize) -> Jud
         return Judged::No(Error::NoRoom);
     }
     Judged::Passed
+}
+
+// The bytes that a property takes whose value has n.
+pub(crate) fn property_size(n: usize) -> usize
+    requires { ⌜ n ≤ 2 ^ 63 ⌝ }
+    ensures { λ r. ⌜ r ≡ 12 + padded n ⌝ }
+{
+    12 + (n + 3) / 4 * 4
+}
+
+// By how much strings of `used` bytes grow for a name of n that was sought and `offset` was answered.
+pub(crate) fn growth(offset: usize, used: usize, n: usize) -> usize
+    requires { ⌜ n < 2 ^ 63 ⌝ }
+    ensures { λ r. ⌜ r ≡ (if ltb offset used then 0 else n + 1) ⌝ }
+{
+    if offset < used {
+        return 0;
+    }
+    n + 1
+}
+
+// The tests of a property that takes `size` bytes of data. `own` says that its value breaks the rule of its helper.
+pub(crate) fn property(
+    w: FdtWriter,
+    data_lent: usize,
+    strings: &[u8],
+    own: bool,
+    name: &[u8],
+    size: usize,
+) -> Place
+    ensures { λ r. ⌜ placeOf r ≡ placed (stateOf w) «data_lent» (now (strings .entry)) own (now (name .entry)) size ⌝ }
+{
+    if impossible(w, data_lent, strings.len()) {
+        return Place::Not(Error::ImpossibleState);
+    }
+    if own {
+        return Place::Not(Error::InvalidString);
+    }
+    if w.node_ended {
+        return Place::Not(Error::PropertyAfterEndNode);
+    }
+    if w.node_depth == 0 {
+        return Place::Not(Error::PropertyBeforeBeginNode);
+    }
+    if has_nul(name) {
+        return Place::Not(Error::InvalidString);
+    }
+    if !names::property_name_valid(name) {
+        return Place::Not(Error::InvalidPropertyName);
+    }
+    if short(data_lent, w.data_len, size) {
+        return Place::Not(Error::NoRoom);
+    }
+    let offset = append::find_name(octets::part(strings, 0, w.strings_len), name);
+    if short(
+        strings.len(),
+        w.strings_len,
+        growth(offset, w.strings_len, name.len()),
+    ) {
+        return Place::Not(Error::NoRoom);
+    }
+    Place::At(offset)
 }

@@ -2,15 +2,20 @@
 mod judge;
 
 use judge::Judged;
+use judge::Place;
 use rules::FDT_END;
 use rules::FDT_HEADER_SIZE;
 use rules::FDT_LAST_COMP_VERSION;
 use rules::FDT_MAGIC;
 use rules::FDT_VERSION;
 ghost use mathlib.Core.Path.{_≡_};
+ghost use mathlib.Core.Bool.{false};
+ghost use Prim.Native.Nat.{_+_, _≤_};
 ghost use lib.ListN.{length};
-ghost use Rattle.rules.specs.Writer.{beginNode, beginNodeData, endNode, endNodeData, setBootCpu, finish, finishData};
+ghost use Rattle.rules.specs.Octets.{lay};
+ghost use Rattle.rules.specs.Writer.{beginNode, beginNodeData, endNode, endNodeData, setBootCpu, property, propertyData, propertyStrings, finish, finishData};
 ghost use Rattle.writer.specs.Meaning.{stateOf, meaning};
+ghost use Rattle.writer.specs.Judged.{grown, longer};
 
 // A blob that is being written: how much of each lent buffer is in use, where the structure block begins, how many nodes
 // are open, whether the last token closed one, whether `finish` was called, and the boot CPU.
@@ -107,6 +112,53 @@ impl FdtWriter {
                 self.node_depth -= 1;
                 self.node_ended = true;
                 Written::Done(self)
+            }
+        }
+    }
+
+    // The state behind a property of `size` bytes whose name was sought and `offset` was answered; a name that the strings
+    // lack goes behind those used.
+    fn with_property(
+        mut self,
+        strings: &mut [u8],
+        offset: usize,
+        name: &[u8],
+        size: usize,
+    ) -> FdtWriter
+        requires { ⌜ self .«data_len» + size ≤ 1048576 ⌝ }
+        requires { ⌜ self .«strings_len» ≤ 1048576 ⌝ }
+        ensures state { λ r. ⌜ stateOf r ≡ longer (stateOf self) size (length (grown offset (self .«strings_len») (now (name .entry)))) ⌝ }
+        ensures names { λ _. ⌜ now (strings .exit) ≡ lay (now (strings .entry)) (self .«strings_len») (grown offset (self .«strings_len») (now (name .entry))) ⌝ }
+    {
+        self.data_len += size;
+        if offset < self.strings_len {
+            return self;
+        }
+        append::name(strings, self.strings_len, name);
+        self.strings_len += name.len() + 1;
+        self
+    }
+
+    // Writes a property of the node opened last. Refuses, in this order: ImpossibleState (34), PropertyAfterEndNode (21),
+    // PropertyBeforeBeginNode (20), InvalidString (24) for a NUL in the name, InvalidPropertyName (30), NoRoom (33) in data
+    // or strings.
+    pub fn property(
+        mut self,
+        data: &mut [u8],
+        strings: &mut [u8],
+        name: &[u8],
+        val: &[u8],
+    ) -> Written
+        ensures answer { λ r. ⌜ meaning r ≡ property (stateOf self) (length (now («data» .entry))) (now (strings .entry)) false (now (name .entry)) (now (val .entry)) ⌝ }
+        ensures bytes { λ _. ⌜ now («data» .exit) ≡ propertyData (stateOf self) (now («data» .entry)) (now (strings .entry)) false (now (name .entry)) (now (val .entry)) ⌝ }
+        ensures names { λ _. ⌜ now (strings .exit) ≡ propertyStrings (stateOf self) (length (now («data» .entry))) (now (strings .entry)) false (now (name .entry)) (now (val .entry)) ⌝ }
+    {
+        let size = judge::property_size(val.len());
+        match judge::property(self, data.len(), strings, false, name, size) {
+            Place::Not(e) => Written::Refused(self, e),
+            Place::At(offset) => {
+                append::property(data, self.data_len, offset, val);
+                Written::Done(self.with_property(strings, offset, name, size))
             }
         }
     }
