@@ -24,3 +24,4 @@ pub mod Nested
 pub mod Sieve
 pub mod Guest
 pub mod Writer
+pub mod Trips
