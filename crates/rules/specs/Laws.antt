@@ -9,6 +9,7 @@ pub mod Work
 pub mod Listing
 pub mod Verdicts
 pub mod Shape
+pub mod Passes
 pub mod Formed
 pub mod Listed
 pub mod Secrecy
@@ -17,3 +18,4 @@ pub mod Copy
 pub mod Nested
 pub mod Sieve
 pub mod Guest
+pub mod Moved
