@@ -19,3 +19,5 @@ pub mod Nested
 pub mod Sieve
 pub mod Guest
 pub mod Moved
+pub mod Encoded
+pub mod ReadBack
