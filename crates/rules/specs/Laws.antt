@@ -15,6 +15,7 @@ pub mod Paths
 pub mod Work
 pub mod Listing
 pub mod Shape
+pub mod Passes
 pub mod Formed
 pub mod Listed
 pub mod Secrecy
@@ -23,5 +24,8 @@ pub mod Copy
 pub mod Nested
 pub mod Sieve
 pub mod Guest
+pub mod Moved
+pub mod Encoded
+pub mod ReadBack
 pub mod Writer
 pub mod Trips

@@ -29,6 +29,7 @@ use Rattle.rules.specs.Laws.Lists.{Distinct, none as alone, more, number
 use Rattle.rules.specs.Laws.References.{by-option}
 use Rattle.rules.specs.Laws.Verdicts.{gives-refuses, then-passes, one-passes}
 use Rattle.rules.specs.Laws.Shape.{reads-named, reads-plain, Opens, opening-passes, Closes, closing-passes, holding-passes}
+use Rattle.rules.specs.Laws.Passes.{Doubled, doubled-step}
 use Rattle.rules.specs.Laws.Paths.{Formed}
 
 -- ---- the walk over the tokens
@@ -129,18 +130,6 @@ sibling-yes n (List·Memᴰ·tail {x = k} {xs = ks} i) p q =
 -- two nodes that are told apart
 abbrev Apart : Node → Node → Type 0
 Apart n m = n .parent ≡ m .parent → n .name ≡ m .name → ⊥
-
-pub record Doubled (seen : List Node) (n : Node) (ns : List Node) : Type 0 where
-  pub siblings : sibling n seen ≡ false
-  pub props : doubledProps [] (n .props) ≡ passes
-  pub later : doubledFrom (n ∷ seen) ns ≡ passes
-
-pub doubled-step : (seen : List Node) (n : Node) (ns : List Node) → doubledFrom seen (n ∷ ns) ≡ passes → Doubled seen n ns
-unfolding doubledFrom
-doubled-step seen n ns h =
-    let a = then-passes _ (doubledProps [] (n .props) then doubledFrom (n ∷ seen) ns) tt h in
-    let c = then-passes (doubledProps [] (n .props)) (doubledFrom (n ∷ seen) ns) tt (a .1) in
-    record { siblings = one-passes (sibling n seen) 10 (n .place) (a .0); props = c .0; later = c .1 }
 
 apart-seen : (seen ns : List Node) → doubledFrom seen ns ≡ passes → (m : Node) → m ∈ seen → (j : ℕ) → j < length ns → Apart (node ns j) m
 apart-seen seen [] h m k j l = absurd (omega arith)

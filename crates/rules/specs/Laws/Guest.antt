@@ -27,7 +27,8 @@ use Rattle.rules.specs.Laws.Tests.{by-test, never, and-true, or-cases, o
 use Rattle.rules.specs.Laws.Lists.{keep-yes, keep-no}
 use Rattle.rules.specs.Laws.References.{by-option}
 use Rattle.rules.specs.Laws.Verdicts.{then-passes, one-passes}
-use Rattle.rules.specs.Laws.Formed.{Accepted, accepted, read-formed, conf-distinct, conf-small, Doubled, doubled-step}
+use Rattle.rules.specs.Laws.Passes.{Doubled, doubled-step, shared-none, shared-split, shared-join}
+use Rattle.rules.specs.Laws.Formed.{Accepted, accepted, read-formed, conf-distinct, conf-small}
 use Rattle.rules.specs.Laws.Listing.{listed-small}
 use Rattle.rules.specs.Laws.Listed.{configured-granted}
 use Rattle.rules.specs.Laws.Copy.{copied-root, copied-parent}
@@ -43,28 +44,6 @@ words-picked (keeping {a = a} {b = b} {t = t} {u = u} y c p) h =
     let e = then-passes (wordsFrom none (b .props)) (wordsJudged u) tt h in
     rw (c .props, e .0) (words-picked p (e .1))
 words-picked (leaving {b = b} {u = u} y p) h = words-picked p (then-passes (wordsFrom none (b .props)) (wordsJudged u) tt h .1)
-
-module _ (seen : List ℕ) (n : Node) (ns : List Node) where
-  shared-none : phandleProp (n .props) ≡ none → sharedFrom seen (n ∷ ns) ≡ sharedFrom seen ns
-  unfolding sharedFrom
-  shared-none e = rw (e, sharedFrom)
-
-  shared-some : (p : Property) → phandleProp (n .props) ≡ some p
-      → sharedFrom seen (n ∷ ns)
-      ≡ (first (record { fails = oneOf (wordAt (p .value) 0) seen; number = 12; place = p .place } ∷ [])
-      then sharedFrom (wordAt (p .value) 0 ∷ seen) ns)
-  unfolding sharedFrom
-  shared-some p e = rw (e, sharedFrom)
-
-  shared-split : (p : Property) → phandleProp (n .props) ≡ some p → sharedFrom seen (n ∷ ns) ≡ passes
-      → (oneOf (wordAt (p .value) 0) seen ≡ false) × (sharedFrom (wordAt (p .value) 0 ∷ seen) ns ≡ passes)
-  shared-split p e h =
-      let k = then-passes _ (sharedFrom (wordAt (p .value) 0 ∷ seen) ns) tt (sym (shared-some p e) ∙ h) in
-      (one-passes (oneOf (wordAt (p .value) 0) seen) 12 (p .place) (k .0), k .1)
-
-  shared-join : (p : Property) → phandleProp (n .props) ≡ some p → oneOf (wordAt (p .value) 0) seen ≡ false
-      → sharedFrom (wordAt (p .value) 0 ∷ seen) ns ≡ passes → sharedFrom seen (n ∷ ns) ≡ passes
-  shared-join p e f h = shared-some p e ∙ rw (f, h)
 
 -- fewer have been seen
 abbrev Fewer : List ℕ → List ℕ → Type 0

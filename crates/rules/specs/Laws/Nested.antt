@@ -26,12 +26,12 @@ use Rattle.rules.specs.Laws.Shape.{Opens, opening-passes, Closes, closin
 -- ---- from tokens to events
 
 -- what passes goes on to pass
-after-mono : (f g : Walk → Verdict) (p p′ : ℕ) (s : Step) → ((w : Walk) → f w ≡ passes → g w ≡ passes) → after f p s ≡ passes → after g p′ s ≡ passes
+pub after-mono : (f g : Walk → Verdict) (p p′ : ℕ) (s : Step) → ((w : Walk) → f w ≡ passes → g w ≡ passes) → after f p s ≡ passes → after g p′ s ≡ passes
 after-mono f g p p′ (stop number) h e = gives-refuses tt number p e
 after-mono f g p p′ done h e = refl
 after-mono f g p p′ (go w) h e = h w e
 
-ending-passes : (f g : Walk → Verdict) (p p′ : ℕ) (w : Walk) (last : Bool) → after f p (ending w last) ≡ passes → after g p′ (ending w true) ≡ passes
+pub ending-passes : (f g : Walk → Verdict) (p p′ : ℕ) (w : Walk) (last : Bool) → after f p (ending w last) ≡ passes → after g p′ (ending w true) ≡ passes
 unfolding ending
 ending-passes f g p p′ w last h = go (w .stack) (w .count) last h
   where

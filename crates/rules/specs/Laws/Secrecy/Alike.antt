@@ -17,6 +17,7 @@ use Rattle.rules.specs.Copy.{when, sieve}
 use Rattle.rules.specs.Laws.Tests.{by-test, never, or-false, or-left}
 use Rattle.rules.specs.Laws.Octets.{same-eq}
 use Rattle.rules.specs.Laws.References.{by-option}
+use Rattle.rules.specs.Laws.Passes.{shared-none, shared-some}
 
 -- ---- properties
 
@@ -139,17 +140,6 @@ pub wordsJudged-same : {t u : Tree} → Twins t u → wordsJudged t ≡ wordsJud
 unfolding wordsJudged
 wordsJudged-same no-twins = refl
 wordsJudged-same (twins a more) = rw (words-same none (a .props), wordsJudged-same more)
-
-shared-none : (seen : List ℕ) (n : Node) (ns : List Node) → phandleProp (n .props) ≡ none → sharedFrom seen (n ∷ ns) ≡ sharedFrom seen ns
-unfolding sharedFrom
-shared-none seen n ns e = rw (e, sharedFrom)
-
-shared-some : (seen : List ℕ) (n : Node) (ns : List Node) (p : Property) → phandleProp (n .props) ≡ some p
-    → sharedFrom seen (n ∷ ns)
-    ≡ (first (record { fails = oneOf (wordAt (p .value) 0) seen; number = 12; place = p .place } ∷ [])
-    then sharedFrom (wordAt (p .value) 0 ∷ seen) ns)
-unfolding sharedFrom
-shared-some seen n ns p e = rw (e, sharedFrom)
 
 sharedFrom-same : (seen : List ℕ) {t u : Tree} → Twins t u → sharedFrom seen t ≡ sharedFrom seen u
 unfolding sharedFrom
