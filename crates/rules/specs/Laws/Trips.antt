@@ -1,3 +1,3 @@
 -- Demand 2, there and back: what is written is read again, and what is read is written again.
-pub mod Parts
-pub mod Header
+pub mod Tests
+pub mod Calls
