@@ -67,7 +67,7 @@ laid-data rs cpu w d e x h l =
 
 -- ---- one call
 
-given : {A : Type 0} (a b : A) → _≡_ {A = Outcome A} (gives a) (gives b) → b ≡ a
+pub given : {A : Type 0} (a b : A) → _≡_ {A = Outcome A} (gives a) (gives b) → b ≡ a
 given a b e = cc
 
 module _ (d e : Desk) where
