@@ -12,6 +12,8 @@ pub mod Shape
 pub mod Passes
 pub mod Formed
 pub mod Listed
+pub mod Encoded
+pub mod Header
 pub mod Secrecy
 pub mod Refusals
 pub mod Copy
@@ -19,5 +21,6 @@ pub mod Nested
 pub mod Sieve
 pub mod Guest
 pub mod Moved
-pub mod Encoded
 pub mod ReadBack
+pub mod BlobBack
+pub mod GuestCopy

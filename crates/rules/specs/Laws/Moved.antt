@@ -42,6 +42,12 @@ pub data Says : List Event → List Event → Type 0 where
   says-has : {p q : Property} {es fs : List Event} → p .name ≡ q .name → p .value ≡ q .value → Says es fs → Says (has p ∷ es) (has q ∷ fs)
   says-close : {p q : ℕ} {es fs : List Event} → Says es fs → Says (closes p ∷ es) (closes q ∷ fs)
 
+pub says-back : {es fs : List Event} → Says es fs → Says fs es
+says-back says-all = says-all
+says-back (says-open s) = says-open (says-back s)
+says-back (says-has n v s) = says-has (sym n) (sym v) (says-back s)
+says-back (says-close s) = says-close (says-back s)
+
 pub says-unplaced : {es fs : List Event} → Says es fs → unplaced es ≡ unplaced fs
 unfolding unplaced
 says-unplaced says-all = refl

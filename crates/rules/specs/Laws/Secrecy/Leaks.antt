@@ -28,7 +28,8 @@ use Rattle.rules.specs.Laws.Formed.{Accepted, accepted, accepting, read-
 use Rattle.rules.specs.Laws.Secrecy.Alike.{AlikeProp, Alike, ended, paired, AlikeTree, Veiled, veiled-tree, sieve-same, doubled-same, wordsJudged-same, shared-same}
 use Rattle.rules.specs.Laws.Secrecy.Tokens.{Hidden, Open}
 use Rattle.rules.specs.Laws.Secrecy.Answers.{frame-same, open-read, open-copied, listed-same, copied-same, cpusJudged-same, idsFrom-same, hidden-same}
-use Rattle.rules.specs.Laws.Secrecy.Blob.{Laid, header-laid, headerJudged-same, shape-same, events-same}
+use Rattle.rules.specs.Laws.Header.{Laid, header-laid}
+use Rattle.rules.specs.Laws.Secrecy.Blob.{headerJudged-same, shape-same, events-same}
 
 -- ---- a withheld byte is a byte of a hidden value
 
