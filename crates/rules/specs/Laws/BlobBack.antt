@@ -1,27 +1,26 @@
 -- Reading gives back what was written: a blob of events that fit, with reservations that pass 27, is accepted and reads as them.
-use mathlib.Core.Path.{_≡_, refl, sym, ap, ap₂, _∙_, subst}
-use mathlib.Core.Bool.{Bool, true, false, not, _&&_, _||_}
-use mathlib.Core.Option.{Option, none, some}
-use mathlib.Core.List.{List, [], _∷_, _++_, append-assoc, append-nil}
-use Prim.Native.Nat.{ℕ, zero, suc, _+_, _*_, _%_, _≤_, _<_}
+use mathlib.Core.Path.{_≡_, refl, sym, ap, _∙_}
+use mathlib.Core.Bool.{false}
+use mathlib.Core.Option.{some}
+use mathlib.Core.List.{List, [], _++_, append-assoc}
+use Prim.Native.Nat.{ℕ, suc, _+_, _%_, _≤_, _<_}
 use native.Mathlib.Omega.{arith}
 use lib.ListN.{length, take, drop, length-append}
 use lib.Seq.{take-at, drop-at, drop-drop, take-length}
-use lib.Dec.{eqb, ltb}
 use borrow.Author.Tests.{le-ltb, eq-eqb}
 use Rattle.rules.specs.Ceilings.{blobCeiling}
-use Rattle.rules.specs.Octets.{Bytes, be32, be64, zeros, part}
+use Rattle.rules.specs.Octets.{Bytes, be32, be64, part}
 use Rattle.rules.specs.Outcome.{passes}
 use Rattle.rules.specs.Reservations.{Entry, anyInvalid, entryBytes, block}
-use Rattle.rules.specs.Blob.{Header, headerIn, entriesIn, misplaced, headerJudged, Block, blockIn}
-use Rattle.rules.specs.Events.{Event, shapeJudged, eventsIn}
+use Rattle.rules.specs.Blob.{Header, headerIn, entriesIn, misplaced, headerJudged, blockIn}
+use Rattle.rules.specs.Events.{Event, shapeJudged}
 use Rattle.rules.specs.Tree.{nodesOf}
-use Rattle.rules.specs.Reader.{eventsRead, treeRead, blobJudged}
+use Rattle.rules.specs.Reader.{eventsRead, treeRead}
 use Rattle.rules.specs.Writer.{headerBytes, startBytes}
-use Rattle.rules.specs.Written.{writeEvents, blobWith, blobOf, unplaced}
+use Rattle.rules.specs.Written.{blobWith, blobOf}
 use Rattle.rules.specs.Demands.{Fits, ReadsAs}
 use Rattle.rules.specs.Laws.Octets.{length-be32, length-zeros}
-use Rattle.rules.specs.Laws.Formed.{Accepted, accepting}
+use Rattle.rules.specs.Laws.Formed.{accepting}
 use Rattle.rules.specs.Laws.Moved.{Says, says-back, says-unplaced, says-nodes, Moved, doubled-moved, words-moved, shared-moved}
 use Rattle.rules.specs.Laws.Header.{length-header, header-read, entries-read, length-block}
 use Rattle.rules.specs.Laws.ReadBack.{structureOf, stringsOf, writes, structure-whole, shape-read, events-read}
@@ -69,7 +68,13 @@ module _ (rs : List Entry) (cpu : ℕ) (es : List Event) where
 
   length-blob : length (blobOf rs cpu es) ≡ total
   length-blob =
-      rw (blob-is, length-append header (block rs ++ tail), length-append (block rs) tail, length-tail, length-header total at (at + size) cpu (length strings) size)
+      rw (
+        blob-is,
+        length-append header (block rs ++ tail),
+        length-append (block rs) tail,
+        length-tail,
+        length-header total at (at + size) cpu (length strings) size,
+      )
       (omega (arith, length-start rs))
 
   behind : (n : ℕ) → at ≡ n → drop n (blobOf rs cpu es) ≡ tail
@@ -150,12 +155,14 @@ module _ (rs : List Entry) (cpu : ℕ) (es : List Event) where
     unfolding eventsRead
     says =
         rw block-back
-        (events-read at (inner ++ be32 9) strings (omega (arith, total-small, length-append inner (be32 9), length-be32 9)) (omega (arith, total-small)) es refl refl (fit .shape))
+        (events-read at (inner ++ be32 9) strings (omega (arith, total-small, length-append inner (be32 9), length-be32 9))
+        (omega (arith, total-small)) es refl refl (fit .shape))
 
     shape-back : shapeJudged (blockIn blob) ≡ passes
     shape-back =
         rw block-back
-        (shape-read at (inner ++ be32 9) strings (omega (arith, total-small, length-append inner (be32 9), length-be32 9)) (omega (arith, total-small)) es refl refl (fit .shape))
+        (shape-read at (inner ++ be32 9) strings (omega (arith, total-small, length-append inner (be32 9), length-be32 9))
+        (omega (arith, total-small)) es refl refl (fit .shape))
 
     moved : Moved (nodesOf es) (treeRead blob)
     unfolding treeRead

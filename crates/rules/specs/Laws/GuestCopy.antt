@@ -1,17 +1,15 @@
 -- Demand 2 of the guest: read, it is 01's filtered copy.
-use mathlib.Core.Path.{_≡_, refl, sym, ap, _∙_}
+use mathlib.Core.Path.{_≡_, refl, _∙_}
 use mathlib.Core.Bool.{false}
-use mathlib.Core.List.{List, [], _∷_, map}
-use Prim.Native.Nat.{ℕ}
+use mathlib.Core.List.{List, []}
 use native.Mathlib.Omega.{arith}
-use Rattle.rules.specs.Reservations.{Entry, anyInvalid}
+use Rattle.rules.specs.Reservations.{anyInvalid}
 use Rattle.rules.specs.Events.{Event}
-use Rattle.rules.specs.Tree.{frame, nodesOf}
+use Rattle.rules.specs.Tree.{frame}
 use Rattle.rules.specs.Reader.{eventsRead, treeRead}
-use Rattle.rules.specs.Written.{blobOf}
 use Rattle.rules.specs.Copy.{guestEvents, guestBytes}
 use Rattle.rules.specs.Derivation.{asked, guestOf}
-use Rattle.rules.specs.Demands.{plain, GuestIsCopy}
+use Rattle.rules.specs.Demands.{GuestIsCopy}
 use Rattle.rules.specs.Laws.Moved.{moved-plain}
 use Rattle.rules.specs.Laws.Guest.{guest-fits, guest-plain}
 use Rattle.rules.specs.Laws.BlobBack.{reads-back, nodes-back}

@@ -1,22 +1,21 @@
 -- The laws of the header and the reservations: what a header that passes says, and that one that was written passes.
-use mathlib.Core.Path.{_≡_, refl, sym, ap, ap₂, _∙_}
-use mathlib.Core.Logic.{_⊎_, inl, inr}
+use mathlib.Core.Path.{_≡_, refl, sym, ap, _∙_}
 use mathlib.Core.Bool.{Bool, true, false, not, _&&_, _||_}
-use mathlib.Core.Option.{Option, none, some, Option·map}
-use mathlib.Core.List.{List, [], _∷_, _++_, append-assoc, append-nil}
+use mathlib.Core.Option.{none, some, Option·map}
+use mathlib.Core.List.{List, [], _∷_, _++_, append-assoc}
 use Prim.Native.Nat.{ℕ, zero, suc, _+_, _*_, _%_, _^_, _≤_, _<_}
 use native.Mathlib.Omega.{arith}
 use lib.ListN.{length, getD, length-append}
 use lib.Seq.{getD-append-add}
 use lib.Dec.{eqb, leb, ltb}
-use borrow.Author.Tests.{ltb-false, leb-false, eqb-false, le-ltb, eq-eqb, ne-eqb}
+use borrow.Author.Tests.{ltb-false, leb-false, eqb-false, le-ltb, ne-eqb}
 use Rattle.rules.specs.Ceilings.{blobCeiling}
 use Rattle.rules.specs.Octets.{Bytes, wordAt, longAt, be32, be64, words32}
-use Rattle.rules.specs.Outcome.{Verdict, passes, Test, first}
+use Rattle.rules.specs.Outcome.{passes, first}
 use Rattle.rules.specs.Reservations.{Entry, invalid, anyInvalid, entryBytes, block}
 use Rattle.rules.specs.Blob.{Header, headerIn, entriesFrom, entriesIn, missing, misplaced, headerJudged}
 use Rattle.rules.specs.Writer.{headerBytes}
-use Rattle.rules.specs.Laws.Tests.{by-test, never, or-false, false-or}
+use Rattle.rules.specs.Laws.Tests.{by-test, never, or-false}
 use Rattle.rules.specs.Laws.Verdicts.{gives-refuses}
 use Rattle.rules.specs.Laws.Octets.{length-be32, length-be64}
 use Rattle.rules.specs.Laws.Encoded.{word-at, long-at}
@@ -52,7 +51,8 @@ module _ (b : Bytes) (fuel at limit : ℕ) where
   unfolding entriesFrom
   entries-cut e = rw (e, entriesFrom)
 
-  pub entries-last : ltb limit (at + 16) ≡ false → (eqb (longAt b at) 0 && eqb (longAt b (at + 8)) 0) ≡ true → entriesFrom (suc fuel) b at limit ≡ some []
+  pub entries-last : ltb limit (at + 16) ≡ false → (eqb (longAt b at) 0 && eqb (longAt b (at + 8)) 0) ≡ true
+      → entriesFrom (suc fuel) b at limit ≡ some []
   unfolding entriesFrom
   entries-last e f = rw (e, f, entriesFrom)
 
@@ -72,7 +72,9 @@ unfolding headerJudged misplaced entriesIn
 header-laid b h =
     let v : Header = headerIn b in
     let large : Bool = ltb (v .total) 40 || ltb (length b) (v .total) || ltb blobCeiling (v .total) in
-    let f = five-pass (ltb (length b) 40) (not (eqb (v .magic) 0xd00dfeed)) large (not (eqb (v .version) 17) || not (eqb (v .compatible) 16)) (misplaced b) h in
+    let f =
+    five-pass (ltb (length b) 40) (not (eqb (v .magic) 0xd00dfeed)) large (not (eqb (v .version) 17) || not (eqb (v .compatible) 16))
+    (misplaced b) h in
     let m₁ = or-false _ (ltb (v .total) (v .strings + v .stringsSize)) (f .1) in
     let m₂ = or-false _ (ltb (v .strings) (v .structure + v .structureSize)) (m₁ .0) in
     let m₃ = or-false _ (missing (entriesIn b)) (m₂ .0) in
@@ -114,7 +116,8 @@ unfolding words32
 length-words [] = refl
 length-words (v ∷ vs) = rw (length-append, length-be32 v, length-words vs) (omega arith)
 
-pub length-header : (total structure strings cpu stringsSize structureSize : ℕ) → length (headerBytes total structure strings cpu stringsSize structureSize) ≡ 40
+pub length-header : (total structure strings cpu stringsSize structureSize : ℕ)
+    → length (headerBytes total structure strings cpu stringsSize structureSize) ≡ 40
 unfolding headerBytes
 length-header total structure strings cpu stringsSize structureSize = length-words _
 
@@ -184,7 +187,8 @@ entries-read (w ∷ rs) b p r (suc fuel) at limit e l f h v =
     let e₂ : b ≡ p ++ (a ++ c) ++ rest = e ∙ simp append-assoc in
     let m : length (p ++ (a ++ c)) ≡ at + 16 = rw (length-append, length-append, length-be64 (w .address), length-be64 (w .size)) (omega arith) in
     let x : longAt b at ≡ w .address = ap (λ (s : Bytes). longAt s at) e₁ ∙ long-at p (c ++ rest) (w .address) at l (d .1) in
-    let y : longAt b (at + 8) ≡ w .size = ap (λ (s : Bytes). longAt s (at + 8)) e₁ ∙ long-next p a rest (w .size) at 8 l (length-be64 (w .address)) (d .2) in
+    let y : longAt b (at + 8) ≡ w .size =
+    ap (λ (s : Bytes). longAt s (at + 8)) e₁ ∙ long-next p a rest (w .size) at 8 l (length-be64 (w .address)) (d .2) in
     let n : (eqb (longAt b at) 0 && eqb (longAt b (at + 8)) 0) ≡ false = rw (y, ne-eqb (w .size) 0 (d .0)) (and-nought (eqb (longAt b at) 0)) in
     entries-more b fuel at limit (le-ltb limit (at + 16) (omega arith)) n
     ∙ rw (entries-read rs b (p ++ (a ++ c)) r fuel (at + 16) limit e₂ m (omega arith) (omega arith) (k .1), x, y)
@@ -197,7 +201,8 @@ length-entries : (rs : List Entry) → length (entryBytes rs) ≡ 16 * length rs
 unfolding entryBytes
 length-entries [] = refl
 length-entries (e ∷ rs) =
-    rw (length-append (be64 (e .address)) _, length-append (be64 (e .size)) _, length-be64 (e .address), length-be64 (e .size), length-entries rs) (omega arith)
+    rw (length-append (be64 (e .address)) _, length-append (be64 (e .size)) _, length-be64 (e .address), length-be64 (e .size), length-entries rs)
+    (omega arith)
 
 pub length-block : (rs : List Entry) → length (block rs) ≡ 16 * length rs + 16
 unfolding block

@@ -1,24 +1,20 @@
 -- Two blobs that agree but in hidden value bytes, of which the first has a header that passes: the header is judged alike, the shape
 -- too, and the events are the same but for what is hidden.
-use mathlib.Core.Path.{_≡_, refl, sym, ap, ap₂, _∙_, subst}
+use mathlib.Core.Path.{_≡_, refl, sym, _∙_}
 use mathlib.Core.Logic.{_⊎_, inl, inr}
-use mathlib.Core.Bool.{Bool, true, false, not, _&&_, _||_}
-use mathlib.Core.Option.{Option, none, some, Option·map}
-use mathlib.Core.List.{List, [], _∷_}
-use Prim.Native.Nat.{ℕ, zero, suc, _+_, _%_, _≤_, _<_, min}
+use mathlib.Core.Bool.{Bool, _&&_}
+use mathlib.Core.List.{[]}
+use Prim.Native.Nat.{ℕ, zero, suc, _+_, _≤_, _<_, min}
 use native.Mathlib.Omega.{arith}
-use lib.ListN.{length, getD, take, drop, length-take, length-drop, List·getD-eq-default}
+use lib.ListN.{length, getD, drop, length-take, length-drop, List·getD-eq-default}
 use lib.Seq.{getD-take, getD-drop}
 use lib.Dec.{eqb, ltb}
 use borrow.Author.Tests.{ltb-false}
-use Rattle.rules.specs.Ceilings.{blobCeiling}
 use Rattle.rules.specs.Octets.{Bytes, wordAt, longAt, part}
-use Rattle.rules.specs.Outcome.{Verdict, passes, Test, first}
-use Rattle.rules.specs.Reservations.{Entry}
-use Rattle.rules.specs.Blob.{Header, headerIn, entriesFrom, entriesIn, missing, misplaced, headerJudged, Block, blockIn}
-use Rattle.rules.specs.Events.{Event, shapeJudged, eventsIn}
+use Rattle.rules.specs.Blob.{headerIn, entriesFrom, entriesIn, misplaced, headerJudged, blockIn}
+use Rattle.rules.specs.Events.{shapeJudged}
 use Rattle.rules.specs.Reader.{eventsRead}
-use Rattle.rules.specs.Laws.Tests.{by-test, by-le, never, or-false}
+use Rattle.rules.specs.Laws.Tests.{by-test, by-le}
 use Rattle.rules.specs.Laws.Header.{entries-cut, entries-last, entries-more, Laid}
 use Rattle.rules.specs.Laws.Secrecy.Alike.{Veiled}
 use Rattle.rules.specs.Laws.Secrecy.Tokens.{Clear, word-same, part-same, Hidden, Open, behind-all, shape-kept, events-kept}
@@ -51,7 +47,8 @@ module _ (S : ℕ → Bytes → Bool) (host other : Bytes) (size : length host �
   strings = part host (headerIn host .strings) (headerIn host .stringsSize)
 
   -- what is hidden stands in the structure block
-  hidden-inside : (x : ℕ) → Hidden S x [] 0 (eventsRead host) → (headerIn host .structure ≤ x) × (x < headerIn host .structure + headerIn host .structureSize)
+  hidden-inside : (x : ℕ) → Hidden S x [] 0 (eventsRead host)
+      → (headerIn host .structure ≤ x) × (x < headerIn host .structure + headerIn host .structureSize)
   unfolding eventsRead blockIn structure strings
   hidden-inside x h =
       let b = behind-all S (headerIn host .structure) strings structure x h in
@@ -122,7 +119,11 @@ module _ (S : ℕ → Bytes → Bool) (host other : Bytes) (size : length host �
   block-same : blockIn other ≡ record { place = headerIn host .structure; structure = changed; strings = strings }
   unfolding blockIn changed strings
   block-same =
-      rw (← header-same, part-same host other (headerIn host .strings) (headerIn host .stringsSize) size (clear-behind (headerIn host .strings + headerIn host .stringsSize)))
+      rw (
+        ← header-same,
+        part-same host other (headerIn host .strings) (headerIn host .stringsSize) size
+            (clear-behind (headerIn host .strings + headerIn host .stringsSize)),
+      )
 
   -- 6 to 9 judge alike
   pub shape-same : shapeJudged (blockIn host) ≡ shapeJudged (blockIn other)
