@@ -2,27 +2,27 @@
 -- theorem proves each. Code meets them through its contracts, which are equations with these definitions.
 use mathlib.Core.Path.{_≡_}
 use mathlib.Core.Logic.{_↔_}
-use mathlib.Core.Bool.{Bool, true, false}
+use mathlib.Core.Bool.{true, false}
 use mathlib.Core.List.{List, [], _∷_, map}
-use mathlib.Core.Option.{Option, some}
-use Prim.Native.Nat.{ℕ, suc, _^_, _≤_, _<_}
+use mathlib.Core.Option.{some}
+use Prim.Native.Nat.{ℕ, _^_, _≤_, _<_}
 use Prim.Native.String.{String}
 use lib.ListN.{length, getD, take, drop}
 use Rattle.rules.specs.Ceilings.{blobCeiling, workWords, reservationCeiling}
 use Rattle.rules.specs.Octets.{Bytes, AreBytes, zeros, ascii}
-use Rattle.rules.specs.Outcome.{Outcome, gives, refuses, passes}
+use Rattle.rules.specs.Outcome.{gives, refuses, passes}
 use Rattle.rules.specs.Reservations.{Entry, anyInvalid, overlapping}
 use Rattle.rules.specs.Writer.{room}
-use Rattle.rules.specs.Written.{Blocks, writeEvents, blobOf, Call, bootCpu, written, said, bootSaid, spelled, unplaced}
+use Rattle.rules.specs.Written.{writeEvents, blobOf, Call, bootCpu, written, said, bootSaid, spelled, unplaced}
 use Rattle.rules.specs.Blob.{headerIn, entriesIn}
-use Rattle.rules.specs.Events.{Property, Event, opens, has, closes, eventsJudged}
-use Rattle.rules.specs.Tree.{Node, Tree, node, path, frame, numbers, nodesOf, doubledJudged, wordsJudged, sharedJudged, readName}
+use Rattle.rules.specs.Events.{Property, Event, eventsJudged}
+use Rattle.rules.specs.Tree.{Node, node, path, frame, numbers, nodesOf, doubledJudged, wordsJudged, sharedJudged, readName}
 use Rattle.rules.specs.Reader.{eventsRead, treeRead, blobJudged, read, readWork}
 use Rattle.rules.specs.References.{Rules}
-use Rattle.rules.specs.Listing.{_∈_, Reached, Spared, Listed}
+use Rattle.rules.specs.Listing.{_∈_, Listed}
 use Rattle.rules.specs.Lists.{keep}
-use Rattle.rules.specs.Copy.{Asked, copied, guestEvents}
-use Rattle.rules.specs.Derivation.{Request, Derived, asked, requestJudged, listsJudged, configuredJudged, idsFrom, listedPaths, listOf, guestOf, derive, deriveList, deriveGuest, deriveWork}
+use Rattle.rules.specs.Copy.{copied, guestEvents}
+use Rattle.rules.specs.Derivation.{Request, asked, requestJudged, listsJudged, configuredJudged, listedPaths, guestOf, derive, deriveList, deriveGuest, deriveWork}
 use Rattle.rules.specs.Withheld.{Agree}
 
 -- ---- 1. Always an answer. That every entry point returns is what the checker shows of each function. Of a refusal:

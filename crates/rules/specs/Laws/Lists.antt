@@ -5,9 +5,11 @@ use mathlib.Core.Bool.{Bool, true, false}
 use mathlib.Core.List.{List, [], _∷_, _++_, map, List·Memᴰ·head, List·Memᴰ·tail, List·Memᴰ·not-nil, List·Memᴰ·cases-cons, Memᴰ·cast, List·Memᴰ·append-cases, reverse, reverseAux, reverse-reverse}
 use Prim.Native.Nat.{ℕ, zero, suc, _+_, _≤_, _<_}
 use native.Mathlib.Omega.{arith}
-use lib.ListN.{length, getD}
+use lib.ListN.{length, getD, drop, drop-of-length-le}
+use lib.Seq.{drop-cons}
+use native.Mathlib.Numerals.{add-one}
 use lib.Dec.{eqb}
-use borrow.Author.Tests.{eqb-true, eqb-false, eq-eqb}
+use borrow.Author.Tests.{eqb-true, eqb-false, eq-eqb, ne-eqb}
 use Rattle.rules.specs.Lists.{oneOf, every, any, keep, fresh}
 use Rattle.rules.specs.Tree.{numbersFrom}
 use Rattle.rules.specs.Listing.{_∈_}
@@ -36,6 +38,21 @@ pub not-oneOf : (x : ℕ) (l : List ℕ) → (x ∈ l → ⊥) → oneOf x l ≡
 not-oneOf x l h = not-passed (oneOf x l) (λ e. h (oneOf-mem x l e))
 
 -- an element of a list of which every one passes
+
+-- place by place, for a loop
+module _ (x : ℕ) (l : List ℕ) (i : ℕ) where
+  pub oneOf-end : length l ≤ i → oneOf x (drop i l) ≡ false
+  unfolding oneOf
+  oneOf-end h = rw (drop-of-length-le l h)
+
+  pub oneOf-here : i < length l → getD l i 0 ≡ x → oneOf x (drop i l) ≡ true
+  unfolding oneOf
+  oneOf-here h e = rw (drop-cons l i 0 h) (or-left (eqb x (getD l i 0)) (oneOf x (drop (suc i) l)) (eq-eqb x (getD l i 0) (sym e)))
+
+  pub oneOf-past : i < length l → (getD l i 0 ≡ x → ⊥) → oneOf x (drop i l) ≡ oneOf x (drop (i + 1) l)
+  unfolding oneOf
+  oneOf-past h e = rw (add-one, drop-cons l i 0 h) (rw (ne-eqb x (getD l i 0) (λ q. e (sym q))))
+
 pub every-mem : (f : ℕ → Bool) {x : ℕ} {l : List ℕ} → x ∈ l → every f l ≡ true → f x ≡ true
 unfolding every
 every-mem f (List·Memᴰ·head {x = y} {xs = ys} e) h = rw e (and-true (f y) (every f ys) h .0)

@@ -1,0 +1,1 @@
+-- What the tests of names promise is said in rules: Names.

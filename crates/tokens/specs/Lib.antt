@@ -1,0 +1,1 @@
+-- What a token is stands in rules: Tokens.

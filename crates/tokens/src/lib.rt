@@ -1,0 +1,80 @@
+// The tokens of a structure block (DTSpec 5.4), read one at a time from the block alone. This is the inner loop of every walk.
+use rules::FDT_BEGIN_NODE;
+use rules::FDT_END;
+use rules::FDT_END_NODE;
+use rules::FDT_NOP;
+use rules::FDT_PROP;
+use rules::Kind;
+use rules::Token;
+ghost use mathlib.Core.Path.{_≡_};
+ghost use Prim.Native.Nat.{_≤_};
+ghost use lib.ListN.{length};
+ghost use Rattle.rules.specs.Tokens.{beginAt, propAt, tokenAt};
+
+// BEGIN, whose name begins at b. A name without NUL has no room for one, and so is cut.
+fn begin_at(s: &[u8], b: usize) -> Token
+    requires { ⌜ b ≤ length (now s) ⌝ }
+    ensures { λ r. ⌜ r ≡ beginAt (now (s .entry)) b ⌝ }
+{
+    let len = octets::nul(s, b);
+    let next = b + (len + 1 + 3) / 4 * 4;
+    if next <= s.len() {
+        Token::Item {
+            kind: Kind::Begin { len },
+            next,
+        }
+    } else {
+        Token::Cut
+    }
+}
+
+// PROP, whose length and name offset begin at b. The length is below 2^32, so that no sum wraps.
+fn prop_at(s: &[u8], b: usize) -> Token
+    requires { ⌜ b ≤ length (now s) ⌝ }
+    ensures { λ r. ⌜ r ≡ propAt (now (s .entry)) b ⌝ }
+{
+    let value = b + 8;
+    if s.len() < value {
+        return Token::Cut;
+    }
+    let len = octets::word(s, b) as usize;
+    let name = octets::word(s, b + 4) as usize;
+    let next = value + (len + 3) / 4 * 4;
+    if next <= s.len() {
+        Token::Item {
+            kind: Kind::Prop { len, name, value },
+            next,
+        }
+    } else {
+        Token::Cut
+    }
+}
+
+// The token at a place of a structure block: an item and where the next one begins; End; or Cut, where fewer than four bytes
+// are left, the tag is unknown, or the item does not end inside the block.
+pub fn token_at(s: &[u8], at: usize) -> Token
+    ensures { λ r. ⌜ r ≡ tokenAt (now (s .entry)) at ⌝ }
+{
+    if s.len() < 4 {
+        return Token::Cut;
+    }
+    if s.len() - 4 < at {
+        return Token::Cut;
+    }
+    let tag = octets::word(s, at);
+    let b = at + 4;
+    match tag {
+        FDT_BEGIN_NODE => begin_at(s, b),
+        FDT_END_NODE => Token::Item {
+            kind: Kind::EndNode,
+            next: b,
+        },
+        FDT_PROP => prop_at(s, b),
+        FDT_NOP => Token::Item {
+            kind: Kind::Nop,
+            next: b,
+        },
+        FDT_END => Token::End,
+        _ => Token::Cut,
+    }
+}
