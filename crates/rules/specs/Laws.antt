@@ -18,6 +18,8 @@ pub mod Shape
 pub mod Passes
 pub mod Formed
 pub mod Listed
+pub mod Encoded
+pub mod Header
 pub mod Secrecy
 pub mod Refusals
 pub mod Copy
@@ -25,7 +27,8 @@ pub mod Nested
 pub mod Sieve
 pub mod Guest
 pub mod Moved
-pub mod Encoded
 pub mod ReadBack
+pub mod BlobBack
+pub mod GuestCopy
 pub mod Writer
 pub mod Trips

@@ -1,27 +1,23 @@
 -- What is written reads: the words, the tokens, the names and the strings.
-use mathlib.Core.Path.{_≡_, refl, sym, ap, ap₂, _∙_, subst}
-use mathlib.Core.Logic.{_⊎_, inl, inr}
-use mathlib.Core.Bool.{Bool, true, false, not, _&&_, _||_}
-use mathlib.Core.List.{List, [], _∷_, _++_, append-assoc, append-nil, List·Memᴰ·head, List·Memᴰ·tail}
-use Prim.Native.Nat.{ℕ, zero, suc, _+_, _-_, _*_, _/_, _%_, _≤_, _<_}
+use mathlib.Core.Path.{_≡_, refl, sym, ap, _∙_}
+use mathlib.Core.Bool.{Bool, true, false, _&&_}
+use mathlib.Core.List.{[], _∷_, _++_, append-assoc, append-nil, List·Memᴰ·head, List·Memᴰ·tail}
+use Prim.Native.Nat.{ℕ, suc, _+_, _-_, _*_, _/_, _%_, _≤_, _<_}
 use native.Mathlib.Omega.{arith}
-use native.Mathlib.Nat.{add-zero, add-assoc}
-use lib.ListN.{length, getD, take, drop, length-append, length-replicate}
-use lib.Seq.{getD-append-add, take-at, drop-at, drop-drop, take-append-le, drop-append-le}
-use lib.Dec.{eqb, leb, ltb}
-use borrow.Author.Tests.{eq-eqb, ne-eqb, le-leb, lt-ltb, ltb-true, ltb-false}
-use Rattle.rules.specs.Octets.{Bytes, if_then_else_, wordAt, longAt, be32, be64, words32, zeros, padded, filled, part, nulIn, hasNul, closed, begins}
+use lib.ListN.{length, getD, take, drop, length-append}
+use lib.Seq.{getD-append-add, take-at, drop-at, drop-drop, drop-append-le}
+use lib.Dec.{eqb, ltb}
+use borrow.Author.Tests.{ne-eqb, le-leb, lt-ltb, ltb-true, ltb-false}
+use Rattle.rules.specs.Octets.{Bytes, wordAt, longAt, be32, be64, zeros, padded, filled, part, nulIn, closed, begins}
 use Rattle.rules.specs.Names.{propertyNameReads}
-use Rattle.rules.specs.Tokens.{whole, beginAt, propAt, tagged, tokenAt}
+use Rattle.rules.specs.Tokens.{beginAt, propAt, tagged, tokenAt}
 use Rattle.rules.specs.Events.{nodeNameAt, stringAt, propertyReads}
 use Rattle.rules.specs.Writer.{beginBytes, endBytes, propertyBytes, nameFrom, nameOffset, nameGrowth}
-use Rattle.rules.specs.declared.Token.{Token}
-use Rattle.rules.specs.declared.Token.the-variants.{Item, End, Cut}
-use Rattle.rules.specs.declared.Kind.{Kind}
-use Rattle.rules.specs.declared.Kind.the-variants.{Begin, EndNode, Prop, Nop}
+use Rattle.rules.specs.declared.Token.the-variants.{Item, End}
+use Rattle.rules.specs.declared.Kind.the-variants.{Begin, EndNode, Prop}
 use Rattle.rules.specs.Listing.{_∈_}
-use Rattle.rules.specs.Laws.Tests.{by-test, never, and-true}
-use Rattle.rules.specs.Laws.Octets.{length-be32, length-be64, length-zeros, begins-split, begins-append}
+use Rattle.rules.specs.Laws.Tests.{by-test, and-true}
+use Rattle.rules.specs.Laws.Octets.{length-be32, length-zeros, begins-split}
 
 -- ---- words
 
@@ -232,9 +228,11 @@ module _ (p r value : Bytes) (offset at : ℕ) (e : length p ≡ at) (small : le
   unfolding set
   set-offset =
       ap (λ (s : Bytes). wordAt s (at + 4 + 4)) (sym (append-assoc p (be32 3) (be32 (length value) ++ (be32 offset ++ (filled value ++ r)))))
-      ∙ word-next (p ++ be32 3) (be32 (length value)) (filled value ++ r) offset (at + 4) 4 (rw (length-append, length-be32 3) (omega arith)) (length-be32 (length value)) near
+      ∙ word-next (p ++ be32 3) (be32 (length value)) (filled value ++ r) offset (at + 4) 4 (rw (length-append, length-be32 3) (omega arith))
+      (length-be32 (length value)) near
 
-  pub property-written : tokenAt (p ++ (propertyBytes offset value ++ r)) at ≡ Item (Prop (length value) offset (at + 4 + 8)) (at + 4 + 8 + padded (length value))
+  pub property-written : tokenAt (p ++ (propertyBytes offset value ++ r)) at
+      ≡ Item (Prop (length value) offset (at + 4 + 8)) (at + 4 + 8 + padded (length value))
   unfolding tagged set
   property-written =
       let l = set-length in
@@ -277,8 +275,14 @@ module _ (name : Bytes) where
   interned s t = by-test (ltb (nameOffset name s) (length s))
       (λ e. let h : nameOffset name s < length s = ltb-true (nameOffset name s) (length s) e in
       let b = begins-split (closed name) (drop (nameOffset name s) s) (found-begins true s h) in
-      let y : Bytes = drop (length (closed name)) (drop (nameOffset name s) s) in
-      (y ++ t, rw (e, append-nil) (drop-append-le (nameOffset name s) s t (omega arith) ∙ ap (λ (l : Bytes). l ++ t) b ∙ append-assoc (closed name) y t ∙ append-assoc name (0 ∷ []) (y ++ t))))
+      let y : Bytes = drop (length (closed name)) (drop (nameOffset name s) s) in (
+        y ++ t,
+        rw (e, append-nil)
+            (drop-append-le (nameOffset name s) s t (omega arith)
+            ∙ ap (λ (l : Bytes). l ++ t) b
+            ∙ append-assoc (closed name) y t
+            ∙ append-assoc name (0 ∷ []) (y ++ t)),
+      ))
       (λ e. let q : length s ≡ nameOffset name s = omega (arith, ltb-false (nameOffset name s) (length s) e, offset-le true s) in
       (t, rw (e, append-assoc s (closed name) t) (drop-at s (closed name ++ t) (nameOffset name s) q ∙ append-assoc name (0 ∷ []) t)))
 

@@ -1,23 +1,19 @@
 -- Events that are the same but for their places: the same is said without places, their nodes have the same names and properties, and
 -- where one of two such trees passes 10 to 12 the other does.
-use mathlib.Core.Path.{_≡_, refl, sym, ap, ap₂, _∙_}
-use mathlib.Core.Bool.{Bool, true, false, not, _&&_, _||_}
+use mathlib.Core.Path.{_≡_, refl, sym, ap, _∙_}
+use mathlib.Core.Bool.{true, false}
 use mathlib.Core.Option.{Option, none, some}
 use mathlib.Core.List.{List, [], _∷_, map}
-use Prim.Native.Nat.{ℕ, zero, suc, _+_}
-use lib.ListN.{length}
-use lib.Dec.{eqb}
-use Rattle.rules.specs.Octets.{Bytes, if_then_else_, wordAt, same}
-use Rattle.rules.specs.Lists.{oneOf}
-use Rattle.rules.specs.Outcome.{Verdict, passes, _then_, first, Test}
+use Prim.Native.Nat.{ℕ, suc}
+use Rattle.rules.specs.Octets.{Bytes, if_then_else_, wordAt}
+use Rattle.rules.specs.Outcome.{passes, _then_}
 use Rattle.rules.specs.Events.{Property, Event, opens, has, closes}
-use Rattle.rules.specs.Tree.{Node, Tree, propsOf, top, rest, nodesFrom, nodesOf, sibling, named, doubledProps, doubledFrom, doubledJudged, isPhandle, readName, differs, wordsFrom, wordsJudged, phandleProp, sharedFrom, sharedJudged}
+use Rattle.rules.specs.Tree.{Node, Tree, propsOf, rest, nodesFrom, nodesOf, sibling, named, doubledProps, doubledFrom, doubledJudged, isPhandle, wordsFrom, wordsJudged, phandleProp, sharedFrom, sharedJudged}
 use Rattle.rules.specs.Written.{unplaced}
-use Rattle.rules.specs.Demands.{Plain, plain}
+use Rattle.rules.specs.Demands.{plain}
 use Rattle.rules.specs.Laws.Tests.{by-test}
 use Rattle.rules.specs.Laws.Verdicts.{then-passes, one-passes}
-use Rattle.rules.specs.Laws.References.{by-option}
-use Rattle.rules.specs.Laws.Passes.{Doubled, doubled-step, Worded, words-step, step-words, shared-none, shared-split, shared-join}
+use Rattle.rules.specs.Laws.Passes.{doubled-step, words-step, step-words, shared-none, shared-split, shared-join}
 
 -- ---- properties and nodes
 
@@ -41,6 +37,12 @@ pub data Says : List Event → List Event → Type 0 where
   says-open : {p q : ℕ} {name : Bytes} {es fs : List Event} → Says es fs → Says (opens p name ∷ es) (opens q name ∷ fs)
   says-has : {p q : Property} {es fs : List Event} → p .name ≡ q .name → p .value ≡ q .value → Says es fs → Says (has p ∷ es) (has q ∷ fs)
   says-close : {p q : ℕ} {es fs : List Event} → Says es fs → Says (closes p ∷ es) (closes q ∷ fs)
+
+pub says-back : {es fs : List Event} → Says es fs → Says fs es
+says-back says-all = says-all
+says-back (says-open s) = says-open (says-back s)
+says-back (says-has n v s) = says-has (sym n) (sym v) (says-back s)
+says-back (says-close s) = says-close (says-back s)
 
 pub says-unplaced : {es fs : List Event} → Says es fs → unplaced es ≡ unplaced fs
 unfolding unplaced
@@ -85,12 +87,14 @@ unfolding named
 named-moved n m e no-props = refl
 named-moved n m e (moved-prop a v r) = rw (named-moved n m e r, e, a)
 
-doubledProps-moved : {old new ps qs : List Property} → MovedProps old new → MovedProps ps qs → doubledProps old ps ≡ passes → doubledProps new qs ≡ passes
+doubledProps-moved : {old new ps qs : List Property} → MovedProps old new → MovedProps ps qs → doubledProps old ps ≡ passes
+    → doubledProps new qs ≡ passes
 unfolding doubledProps
 doubledProps-moved seen no-props h = h
 doubledProps-moved {old} {new} seen (moved-prop {p = p} {q = q} {ps = ps} {qs = qs} n v m) h =
     let e = then-passes _ (doubledProps (p ∷ old) ps) tt h in
-    rw (← named-moved (p .name) (q .name) n seen, one-passes (named (p .name) old) 10 (p .place) (e .0)) (doubledProps-moved (moved-prop n v seen) m (e .1))
+    rw (← named-moved (p .name) (q .name) n seen, one-passes (named (p .name) old) 10 (p .place) (e .0))
+    (doubledProps-moved (moved-prop n v seen) m (e .1))
 
 sibling-moved : (n m : Node) {t u : List Node} → n .parent ≡ m .parent → n .name ≡ m .name → Moved t u → sibling n t ≡ sibling m u
 unfolding sibling
@@ -144,7 +148,8 @@ phandle-moved (moved-prop {p = p} {q = q} {ps = ps} {qs = qs} n v m) = by-test (
     (λ e. rw (phandle-here p ps e, phandle-here q qs (rw n at e)) (each v))
     (λ e. rw (phandle-past p ps e, phandle-past q qs (rw n at e)) (phandle-moved m))
 
-shared-node : (seen : List ℕ) (a b : Node) (t u : Tree) (x y : Option Property) → phandleProp (a .props) ≡ x → phandleProp (b .props) ≡ y → SamePhandle x y
+shared-node : (seen : List ℕ) (a b : Node) (t u : Tree) (x y : Option Property) → phandleProp (a .props) ≡ x → phandleProp (b .props) ≡ y
+    → SamePhandle x y
     → ((seen : List ℕ) → sharedFrom seen t ≡ passes → sharedFrom seen u ≡ passes) → sharedFrom seen (a ∷ t) ≡ passes → sharedFrom seen (b ∷ u) ≡ passes
 shared-node seen a b t u none none e f neither ih h = shared-none seen b u f ∙ ih seen (sym (shared-none seen a t e) ∙ h)
 shared-node seen a b t u (some p) (some q) e f (each v) ih h =

@@ -8,7 +8,7 @@ use lib.ListN.{length}
 use lib.Dec.{eqb}
 use Rattle.rules.specs.Octets.{if_then_else_, wordAt}
 use Rattle.rules.specs.Lists.{oneOf}
-use Rattle.rules.specs.Outcome.{passes, _then_, first, Test}
+use Rattle.rules.specs.Outcome.{passes, _then_, first}
 use Rattle.rules.specs.Events.{Property}
 use Rattle.rules.specs.Tree.{Node, sibling, doubledProps, doubledFrom, isPhandle, readName, differs, wordsFrom, phandleProp, sharedFrom}
 use Rattle.rules.specs.Laws.Verdicts.{gives-refuses, then-passes, one-passes}
@@ -49,7 +49,8 @@ pub words-step : (had : Option ℕ) (p : Property) (ps : List Property) → word
 unfolding wordsFrom
 words-step had p ps h =
     let a = then-passes _ (wordsFrom (phandleAfter had p) ps) tt h in
-    let c = two-pass (readName (p .name) && not (eqb (length (p .value)) 4)) (isPhandle (p .name) && differs had (wordAt (p .value) 0)) (p .place) (a .0) in
+    let c =
+    two-pass (readName (p .name) && not (eqb (length (p .value)) 4)) (isPhandle (p .name) && differs had (wordAt (p .value) 0)) (p .place) (a .0) in
     record { size = c .0; phandle = c .1; later = a .1 }
 
 pub step-words : (had : Option ℕ) (p : Property) (ps : List Property) → Worded had p ps → wordsFrom had (p ∷ ps) ≡ passes

@@ -1,30 +1,23 @@
 -- Reading gives back what was written: the blob of events that fit is accepted, and reads as those events.
-use mathlib.Core.Path.{_≡_, refl, sym, ap, ap₂, _∙_, subst}
-use mathlib.Core.Logic.{_⊎_, inl, inr}
-use mathlib.Core.Bool.{Bool, true, false, not, _&&_, _||_}
-use mathlib.Core.Option.{Option, none, some, Option·map}
+use mathlib.Core.Path.{_≡_, refl, sym, ap, _∙_}
+use mathlib.Core.Bool.{Bool, true}
 use mathlib.Core.List.{List, [], _∷_, _++_, append-assoc, append-nil, List·Memᴰ·not-nil}
-use Prim.Native.Nat.{ℕ, zero, suc, _+_, _-_, _*_, _%_, _^_, _≤_, _<_}
+use Prim.Native.Nat.{ℕ, zero, suc, _+_, _%_, _≤_, _<_}
 use native.Mathlib.Omega.{arith}
-use native.Mathlib.Nat.{add-zero, zero-add}
-use lib.ListN.{length, getD, take, drop, length-append}
-use lib.Seq.{take-at, drop-at}
-use lib.Dec.{eqb, leb, ltb}
+use lib.ListN.{length, drop, length-append}
 use borrow.Author.Tests.{eq-eqb}
 use Rattle.rules.specs.Octets.{Bytes, be32, padded, part}
-use Rattle.rules.specs.Names.{nodeNameReads, propertyNameReads}
-use Rattle.rules.specs.Outcome.{Verdict, passes}
+use Rattle.rules.specs.Names.{propertyNameReads}
+use Rattle.rules.specs.Outcome.{passes}
 use Rattle.rules.specs.Blob.{Block}
 use Rattle.rules.specs.Tokens.{Placed, tokenAt, following, tokensFrom, tokens}
-use Rattle.rules.specs.Events.{Walk, atStart, Step, nodeNameAt, stringAt, propertyReads, opening, closing, holding, ending, onToken, after, judge, shapeJudged, Property, Event, opens, has, closes, saying, eventsOf, eventsIn, placeOf, onEvent, judgeEvents, eventsJudged}
+use Rattle.rules.specs.Events.{Walk, atStart, nodeNameAt, stringAt, propertyReads, opening, closing, holding, judge, shapeJudged, Property, Event, opens, has, closes, eventsOf, eventsIn, judgeEvents, eventsJudged}
 use Rattle.rules.specs.Writer.{beginBytes, endBytes, propertyBytes, nameOffset, nameGrowth}
-use Rattle.rules.specs.Written.{Blocks, writeEvent, writeEvents}
+use Rattle.rules.specs.Written.{writeEvent, writeEvents}
 use Rattle.rules.specs.declared.Token.{Token}
-use Rattle.rules.specs.declared.Token.the-variants.{Item, End, Cut}
-use Rattle.rules.specs.declared.Kind.{Kind}
-use Rattle.rules.specs.declared.Kind.the-variants.{Begin, EndNode, Prop, Nop}
+use Rattle.rules.specs.declared.Token.the-variants.{Item, End}
+use Rattle.rules.specs.declared.Kind.the-variants.{Begin, EndNode, Prop}
 use Rattle.rules.specs.Listing.{_∈_}
-use Rattle.rules.specs.Laws.Tests.{by-test, never}
 use Rattle.rules.specs.Laws.Octets.{length-be32}
 use Rattle.rules.specs.Laws.Shape.{reads-nul, property-nul}
 use Rattle.rules.specs.Laws.Nested.{after-mono, ending-passes, Nested, finished, root, child, holds, shuts, events-nested}
@@ -46,7 +39,8 @@ stringsOf strings (has p ∷ es) = stringsOf (strings ++ nameGrowth (p .name) st
 stringsOf strings (closes place ∷ es) = stringsOf strings es
 
 pub writes : (structure strings : Bytes) (es : List Event)
-    → writeEvents (record { structure = structure; strings = strings }) es ≡ record { structure = structure ++ structureOf strings es; strings = stringsOf strings es }
+    → writeEvents (record { structure = structure; strings = strings }) es
+    ≡ record { structure = structure ++ structureOf strings es; strings = stringsOf strings es }
 unfolding writeEvents writeEvent structureOf stringsOf
 writes structure strings [] = rw append-nil
 writes structure strings (opens place name ∷ es) = writes (structure ++ beginBytes name) strings es ∙ rw append-assoc
@@ -71,7 +65,8 @@ structure-long strings [] = omega arith
 structure-long strings (opens place name ∷ es) =
     rw (length-append, length-begin name) (omega (arith, structure-long strings es))
 structure-long strings (has p ∷ es) =
-    rw (length-append, length-property (nameOffset (p .name) strings) (p .value)) (omega (arith, structure-long (strings ++ nameGrowth (p .name) strings) es))
+    rw (length-append, length-property (nameOffset (p .name) strings) (p .value))
+    (omega (arith, structure-long (strings ++ nameGrowth (p .name) strings) es))
 structure-long strings (closes place ∷ es) = rw (length-append, length-end) (omega (arith, structure-long strings es))
 
 pub structure-whole : (strings : Bytes) (es : List Event) → length (structureOf strings es) % 4 ≡ 0
@@ -79,7 +74,8 @@ unfolding structureOf
 structure-whole strings [] = refl
 structure-whole strings (opens place name ∷ es) = rw (length-append, length-begin name) (omega (arith, structure-whole strings es))
 structure-whole strings (has p ∷ es) =
-    rw (length-append, length-property (nameOffset (p .name) strings) (p .value)) (omega (arith, structure-whole (strings ++ nameGrowth (p .name) strings) es))
+    rw (length-append, length-property (nameOffset (p .name) strings) (p .value))
+    (omega (arith, structure-whole (strings ++ nameGrowth (p .name) strings) es))
 structure-whole strings (closes place ∷ es) = rw (length-append, length-end) (omega (arith, structure-whole strings es))
 
 -- ---- names without NUL
@@ -140,7 +136,8 @@ module _ (place : ℕ) (W F : Bytes) (fits : length W < 4294967296) (near : leng
   trip-close es from to fuel at t =
       record { shape = λ w h. after-mono _ _ from (place + at) (closing w) (t .shape) h; events = says-close (t .events) }
 
-  trip-has : (es : List Event) (p : Property) (offset value to fuel at : ℕ) → stringAt F offset ≡ p .name → propertyReads F offset ≡ propertyNameReads (p .name)
+  trip-has : (es : List Event) (p : Property) (offset value to fuel at : ℕ) → stringAt F offset ≡ p .name
+      → propertyReads F offset ≡ propertyNameReads (p .name)
       → part W value (length (p .value)) ≡ p .value → Trip es (tokensFrom fuel W to)
       → Trip (has p ∷ es) (record { at = at; token = Item (Prop (length (p .value)) offset value) to } ∷ tokensFrom fuel W to)
   unfolding judge judgeEvents eventsOf
@@ -209,7 +206,8 @@ module _ (place : ℕ) (W F : Bytes) (fits : length W < 4294967296) (near : leng
   unfolding tokens
   trip-all es e f h =
       let l : length es ≤ length (structureOf [] es) = structure-long [] es in
-      trip es [] [] (suc (length W)) 0 e refl f (omega (arith, ap length e ∙ length-append (structureOf [] es) (be32 9))) (nested-clean (events-nested es h))
+      trip es [] [] (suc (length W)) 0 e refl f (omega (arith, ap length e ∙ length-append (structureOf [] es) (be32 9)))
+      (nested-clean (events-nested es h))
 
   pub shape-read : (es : List Event) → W ≡ structureOf [] es ++ be32 9 → F ≡ stringsOf [] es → eventsJudged es ≡ passes → shapeJudged block ≡ passes
   unfolding shapeJudged eventsJudged

@@ -1,18 +1,18 @@
 -- The laws of the shape: what it says of a token, and of the walk behind it, that the walk passes; and what names that pass hold.
-use mathlib.Core.Path.{_≡_, refl, sym, ap, _∙_}
+use mathlib.Core.Path.{_≡_, refl, ap, _∙_}
 use mathlib.Core.Logic.{_⊎_, inl, inr}
-use mathlib.Core.Bool.{Bool, true, false, not, _&&_, _||_}
+use mathlib.Core.Bool.{Bool, true, false, not, _&&_}
 use mathlib.Core.List.{List, [], _∷_, List·Memᴰ·not-nil, List·Memᴰ·cases-cons}
-use Prim.Native.Nat.{ℕ, zero, suc, _+_, _≤_, _<_}
+use Prim.Native.Nat.{ℕ, suc, _<_}
 use native.Mathlib.Omega.{arith}
-use lib.ListN.{length, take, drop}
+use lib.ListN.{length}
 use lib.Dec.{eqb, leb}
 use borrow.Author.Tests.{eqb-true, eqb-false, leb-false, not-true}
 use Rattle.rules.specs.Ceilings.{nodeCeiling, openCeiling, nodeNameCeiling, propertyNameCeiling}
 use Rattle.rules.specs.Octets.{Bytes}
 use Rattle.rules.specs.Lists.{every, oneOf}
 use Rattle.rules.specs.Names.{nodeChar, propertyChar, atSign, beforeAt, afterAt, within, nodeNameValid, nodeNameReads, propertyNameValid, propertyNameReads}
-use Rattle.rules.specs.Outcome.{Verdict, gives, refuses, passes}
+use Rattle.rules.specs.Outcome.{Verdict, passes}
 use Rattle.rules.specs.Events.{Walk, Step, stop, done, go, opening, closing, holding, after}
 use Rattle.rules.specs.Listing.{_∈_}
 use Rattle.rules.specs.Laws.Tests.{by-test, never, and-true, or-cases}
@@ -59,7 +59,8 @@ reads-parts : (s : Bytes) → nodeNameReads s ≡ true → (every nodeChar (befo
 unfolding nodeNameReads nodeNameValid
 reads-parts s h =
     let k = and-true (not (eqb (length s) 0)) (nodeNameValid s) h in
-    elim (or-cases (eqb (length s) 0) (within 1 nodeNameCeiling (length (beforeAt s)) && every nodeChar (beforeAt s) && every nodeChar (afterAt s)) (k .1)) [
+    elim (or-cases (eqb (length s) 0) (within 1 nodeNameCeiling (length (beforeAt s)) && every nodeChar (beforeAt s) && every nodeChar (afterAt s))
+    (k .1)) [
       | inl e ↦ absurd (eqb-false (length s) 0 (not-true (eqb (length s) 0) (k .0)) (eqb-true (length s) 0 e))
       | inr e ↦
           let a = and-true (within 1 nodeNameCeiling (length (beforeAt s)) && every nodeChar (beforeAt s)) (every nodeChar (afterAt s)) e in
@@ -147,5 +148,6 @@ module _ (rest : Walk → Verdict) (place : ℕ) where
   unfolding holding
   holding-passes [] count ended reads h = gives-refuses tt 6 place h
   holding-passes (i ∷ is) count true reads h = gives-refuses tt 6 place h
-  holding-passes (i ∷ is) count false true h = record { inside = λ (e : i ∷ is ≡ []). let z : _≡_ {A = ℕ} 0 1 = cc in omega arith; first = refl; name = refl; on = h }
+  holding-passes (i ∷ is) count false true h =
+      record { inside = λ (e : i ∷ is ≡ []). let z : _≡_ {A = ℕ} 0 1 = cc in omega arith; first = refl; name = refl; on = h }
   holding-passes (i ∷ is) count false false h = gives-refuses tt 7 place h
