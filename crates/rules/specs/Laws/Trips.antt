@@ -2,3 +2,4 @@
 pub mod Tests
 pub mod Calls
 pub mod Finish
+pub mod Trip

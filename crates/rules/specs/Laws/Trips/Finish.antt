@@ -13,8 +13,9 @@ use Rattle.rules.specs.Outcome.{Outcome, gives, refuses, passes, _then_}
 use Rattle.rules.specs.Reservations.{Entry, anyInvalid, block}
 use Rattle.rules.specs.Writer.{State, total, headerBytes, headerOf, startBytes, startJudged, start, startData, finishJudged, finish, finishData}
 use Rattle.rules.specs.Written.{Blocks, writeEvents, blobWith, blobOf, Call, Desk, run, finished, started, written, said, bootSaid}
-use Rattle.rules.specs.Laws.Octets.{length-be32, length-words32, length-zeros, length-put, take-put}
+use Rattle.rules.specs.Laws.Octets.{length-be32, length-zeros, length-put, take-put}
 use Rattle.rules.specs.Laws.Verdicts.{then-passes, gives-refuses}
+use Rattle.rules.specs.Laws.Header.{length-header}
 use Rattle.rules.specs.Laws.Trips.Tests.{none-fails, roomy, startTests, start-tests, finishTests, finish-tests}
 use Rattle.rules.specs.Laws.Trips.Calls.{Held, run-held, given}
 
@@ -46,10 +47,6 @@ start-valid rs lent h =
     rw (take-length rs) at (p .1 .0)
 
 -- ---- finishing
-
-length-header : (a b c d e f : ℕ) → length (headerBytes a b c d e f) ≡ 40
-unfolding headerBytes
-length-header a b c d e f = length-words32 _
 
 put-front : (d xs : Bytes) → put d 0 xs ≡ xs ++ drop (length xs) d
 unfolding put
