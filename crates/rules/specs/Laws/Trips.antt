@@ -3,3 +3,4 @@ pub mod Tests
 pub mod Calls
 pub mod Finish
 pub mod Trip
+pub mod Spelled

@@ -158,7 +158,7 @@ unfolding writeEvent
 hold-held rs cpu w d e name value h l = laid-held rs cpu w d e _ _ h (rw (h .stringsHeld) at l)
 
 -- ONE CALL: its events are written behind the others
-call-held : (rs : List Entry) (cpu : ℕ) (w : Blocks) (d e : Desk) (c : Call) → Held rs cpu w d → call d c ≡ gives e
+pub call-held : (rs : List Entry) (cpu : ℕ) (w : Blocks) (d e : Desk) (c : Call) → Held rs cpu w d → call d c ≡ gives e
     → Held rs (bootSaid cpu (c ∷ [])) (writeEvents w (said (c ∷ []))) e
 unfolding said bootSaid writeEvents writeEvent call setBootCpu
 call-held rs cpu w d e (bootCpu m) h g =

@@ -2,7 +2,7 @@
 use mathlib.Core.Path.{_≡_, refl, sym, ap, _∙_}
 use mathlib.Core.Bool.{false}
 use mathlib.Core.List.{List, [], _∷_, _++_, append-assoc, append-nil}
-use Prim.Native.Nat.{ℕ, _+_, _-_, _≤_}
+use Prim.Native.Nat.{ℕ, _+_, _-_, _*_, _≤_}
 use native.Mathlib.Nat.{zero-add}
 use native.Mathlib.Omega.{arith}
 use lib.ListN.{length, take, drop, length-append, length-drop, length-take, take-append-drop}
@@ -15,7 +15,7 @@ use Rattle.rules.specs.Writer.{State, total, headerBytes, headerOf, star
 use Rattle.rules.specs.Written.{Blocks, writeEvents, blobWith, blobOf, Call, Desk, run, finished, started, written, said, bootSaid}
 use Rattle.rules.specs.Laws.Octets.{length-be32, length-zeros, length-put, take-put}
 use Rattle.rules.specs.Laws.Verdicts.{then-passes, gives-refuses}
-use Rattle.rules.specs.Laws.Header.{length-header}
+use Rattle.rules.specs.Laws.Header.{length-header, length-block}
 use Rattle.rules.specs.Laws.Trips.Tests.{none-fails, roomy, startTests, start-tests, finishTests, finish-tests}
 use Rattle.rules.specs.Laws.Trips.Calls.{Held, run-held, given}
 
@@ -47,6 +47,10 @@ start-valid rs lent h =
     rw (take-length rs) at (p .1 .0)
 
 -- ---- finishing
+
+pub length-start : (rs : List Entry) → length (startBytes rs) ≡ 56 + 16 * length rs
+unfolding startBytes
+length-start rs = rw (length-append, length-zeros 40, length-block rs) (omega arith)
 
 put-front : (d xs : Bytes) → put d 0 xs ≡ xs ++ drop (length xs) d
 unfolding put
@@ -95,10 +99,6 @@ module _ (rs : List Entry) (cpu : ℕ) (w : Blocks) (d : Desk) (h : Held rs cpu 
   unfolding startBytes
   start-past = rw append-assoc (drop-at (zeros 40) (block rs ++ w .structure) 40 (length-zeros 40))
 
-  start-long : 40 ≤ s
-  unfolding startBytes
-  start-long = rw (length-append, length-zeros 40) (omega arith)
-
   -- WHAT `finish` LEAVES IS THE BLOB OF THE TWO BLOCKS
   finish-bytes : total (d .state) ≤ length (d .«data») → take (total (d .state)) (put (put (d .«data») (d .state .dataLength) (be32 9 ++ take (d .state .stringsLength) (d .strings))) 0 (headerOf (d .state))) ≡ blobWith rs cpu w
   unfolding blobWith
@@ -111,7 +111,7 @@ module _ (rs : List Entry) (cpu : ℕ) (w : Blocks) (d : Desk) (h : Held rs cpu 
       let l : length H ≡ 40 = length-header _ _ _ _ _ _ in
       let z : drop (length H) (take n (d .«data»)) ≡ block rs ++ w .structure = rw (l, h .dataHeld) start-past in
       rw (h .stringsHeld, header-held, t)
-      (header-laid (d .«data») n x H (omega arith) (omega (arith, data-length, start-long))
+      (header-laid (d .«data») n x H (omega arith) (omega (arith, data-length, length-start rs))
       ∙ ap (λ (b : Bytes). H ++ (b ++ x)) z
       ∙ ap (λ (b : Bytes). H ++ b) (append-assoc (block rs) (w .structure) x))
 
