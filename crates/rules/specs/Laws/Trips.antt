@@ -4,3 +4,4 @@ pub mod Calls
 pub mod Finish
 pub mod Trip
 pub mod Spelled
+pub mod Again

@@ -52,6 +52,16 @@ pub length-start : (rs : List Entry) → length (startBytes rs) ≡ 56 + 16 * le
 unfolding startBytes
 length-start rs = rw (length-append, length-zeros 40, length-block rs) (omega arith)
 
+pub length-with : (rs : List Entry) (cpu : ℕ) (w : Blocks)
+    → length (blobWith rs cpu w) ≡ length (startBytes rs) + (length (w .structure) + 4) + length (w .strings)
+unfolding blobWith
+length-with rs cpu w =
+    let s : ℕ = length (startBytes rs) in
+    let n : ℕ = length (w .structure) + 4 in
+    let h : Bytes = headerBytes (s + n + length (w .strings)) s (s + n) cpu (length (w .strings)) n in
+    rw (length-append h (block rs ++ (w .structure ++ (be32 9 ++ w .strings))), length-append (block rs), length-append (w .structure), length-append (be32 9), length-be32 9)
+    (omega (arith, length-header (s + n + length (w .strings)) s (s + n) cpu (length (w .strings)) n, length-start rs, length-block rs))
+
 put-front : (d xs : Bytes) → put d 0 xs ≡ xs ++ drop (length xs) d
 unfolding put
 put-front d xs = rw (zero-add (length xs))

@@ -60,7 +60,7 @@ module _ (rs : List Entry) (cpu : ℕ) (n m : ℕ) where
   s = length (startBytes rs)
 
   module _ (w : Blocks) (depth : ℕ) (ended : Bool) (d : Desk) (r : Ready rs cpu w depth ended n m d) where
-    possible : (k : ℕ) → s + length (w .structure) ≤ room (length (d .«data»)) → length (w .strings) ≤ room k
+    pub possible : (k : ℕ) → s + length (w .structure) ≤ room (length (d .«data»)) → length (w .strings) ≤ room k
         → impossible (d .state) (length (d .«data»)) k ≡ false
     possible k f g =
         let l = length-start rs in
@@ -71,10 +71,10 @@ module _ (rs : List Entry) (cpu : ℕ) (n m : ℕ) where
         possible-state (d .state) (length (d .«data»)) k (r .going) (omega arith) (omega (arith, r .whole)) (omega arith) (omega arith) o (omega arith) (omega arith)
 
     -- the next place of the data
-    next-place : d .state .dataLength ≡ s + length (w .structure)
+    pub next-place : d .state .dataLength ≡ s + length (w .structure)
     next-place = data-length rs cpu w d (r .held)
 
-    next-string : d .state .stringsLength ≡ length (w .strings)
+    pub next-string : d .state .stringsLength ≡ length (w .strings)
     next-string = strings-length rs cpu w d (r .held)
 
     -- opening a node
