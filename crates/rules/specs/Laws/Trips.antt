@@ -5,3 +5,5 @@ pub mod Finish
 pub mod Trip
 pub mod Spelled
 pub mod Again
+pub mod Grammar
+pub mod Places
