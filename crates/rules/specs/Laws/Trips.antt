@@ -7,3 +7,4 @@ pub mod Spelled
 pub mod Again
 pub mod Grammar
 pub mod Places
+pub mod Derived

@@ -81,7 +81,7 @@ module _ (s : Bytes) (at : ℕ) (tag name pad r : Bytes) (e : drop at s ≡ tag 
       let l : length (name ++ (0 ∷ pad)) ≡ padded (length name + 1) = length-append name (0 ∷ pad) ∙ omega (arith, q .whole) in
       past s (at + 4) (name ++ (0 ∷ pad)) r (padded (length name + 1)) (name-past ∙ sym (append-assoc name (0 ∷ pad) r)) l
 
-  begin-fits : at + 4 + padded (length name + 1) ≤ length s
+  pub begin-fits : at + 4 + padded (length name + 1) ≤ length s
   begin-fits =
       let l : length (name ++ (0 ∷ pad)) ≡ padded (length name + 1) = length-append name (0 ∷ pad) ∙ omega (arith, q .whole) in
       omega (arith, fits s (at + 4) (name ++ (0 ∷ pad)) r (name-past ∙ sym (append-assoc name (0 ∷ pad) r)) (omega arith))
@@ -113,7 +113,7 @@ module _ (s : Bytes) (at : ℕ) (tag len off value pad r : Bytes) (offset : ℕ)
   prop-past =
       past s (at + 4 + 8) (value ++ pad) r (padded (length value)) (value-past ∙ sym (append-assoc value pad r)) (length-append value pad ∙ q .whole)
 
-  prop-fits : at + 4 + 8 + padded (length value) ≤ length s
+  pub prop-fits : at + 4 + 8 + padded (length value) ≤ length s
   prop-fits =
       let a = tag ++ (len ++ (off ++ (value ++ pad))) in
       let m : length a ≡ 12 + padded (length value) =
