@@ -8,3 +8,4 @@ pub mod Again
 pub mod Grammar
 pub mod Places
 pub mod Derived
+pub mod Found
