@@ -9,3 +9,4 @@ pub mod Grammar
 pub mod Places
 pub mod Derived
 pub mod Found
+pub mod Parsed
