@@ -27,7 +27,8 @@ pub mod Sieve
 pub mod Guest
 pub mod Moved
 pub mod Encoded
+pub mod Header
 pub mod ReadBack
 pub mod BlobBack
 pub mod GuestCopy
-pub mod Header
+pub mod Trips
