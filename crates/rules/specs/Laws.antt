@@ -6,6 +6,7 @@ pub mod Order
 pub mod Verdicts
 pub mod Names
 pub mod Reservations
+pub mod Writer
 pub mod Blob
 pub mod Tokens
 pub mod Events
@@ -18,8 +19,6 @@ pub mod Shape
 pub mod Passes
 pub mod Formed
 pub mod Listed
-pub mod Encoded
-pub mod Header
 pub mod Secrecy
 pub mod Refusals
 pub mod Copy
@@ -27,8 +26,9 @@ pub mod Nested
 pub mod Sieve
 pub mod Guest
 pub mod Moved
+pub mod Encoded
+pub mod Header
 pub mod ReadBack
 pub mod BlobBack
 pub mod GuestCopy
-pub mod Writer
 pub mod Trips

@@ -117,3 +117,7 @@ module _ (w : State) (d strings : Bytes) (own : Bool) (name value : Bytes) (size
           changed _ strings s₁ (w .stringsLength) (growth w strings name) v (p .stringsFit) (rw (← p .grows) at g),
         ),
       )
+
+-- the size of a value that is longer or shorter than what is lent for it
+pub size-of : (size n : ℕ) (value : Bytes) → size ≡ 12 + padded n → length value ≡ n → size ≡ 12 + padded (length value)
+size-of size n value e l = e ∙ ap (λ (k : ℕ). 12 + padded k) (sym l)

@@ -7,7 +7,7 @@ use lib.ListN.{length}
 use Rattle.rules.specs.Octets.{Bytes, if_then_else_, hasNul, closed}
 use Rattle.rules.specs.Names.{propertyNameValid}
 use Rattle.rules.specs.Outcome.{Outcome, gives, refuses, Verdict, passes, Test, first, _then_}
-use Rattle.rules.specs.Writer.{State, wrongState, test, noRoom, growth, stringsOf, nameOffset}
+use Rattle.rules.specs.Writer.{State, wrongState, test, noRoom, growth, stringsOf, nameOffset, phandleName, phandleJudged}
 use Rattle.writer.specs.Meaning.{numberOf}
 use Rattle.writer.specs.declared.Error.{Error}
 use Rattle.writer.specs.declared.judge.Judged.{Judged}
@@ -40,6 +40,11 @@ sized w dataLent strings own name size =
 -- those tests, and where the name stands or goes
 unfoldable pub placed : State → (dataLent : ℕ) → Bytes → (own : Bool) → Bytes → (size : ℕ) → Outcome ℕ
 placed w dataLent strings own name size = sized w dataLent strings own name size then gives (nameOffset name (stringsOf w strings))
+
+-- the tests of `property_phandle`, and where the name stands or goes
+unfoldable pub phandlePlaced : State → (dataLent : ℕ) → Bytes → List ℕ → ℕ → Outcome ℕ
+phandlePlaced w dataLent strings phandles value =
+    phandleJudged w dataLent strings phandles value then gives (nameOffset phandleName (stringsOf w strings))
 
 -- what a block of `used` bytes grows by where the name was sought and `offset` was answered
 abbrev pub grown : (offset used : ℕ) → Bytes → Bytes

@@ -6,11 +6,12 @@ use rules::OPEN_CEILING;
 ghost use mathlib.Core.Path.{_≡_};
 ghost use Prim.Native.Nat.{_+_, _*_, _/_, _≤_, _<_, _^_};
 ghost use lib.Dec.{ltb};
-ghost use lib.ListN.{length};
+ghost use lib.ListN.{length, take};
+ghost use Rattle.rules.specs.Lists.{oneOf};
 ghost use Rattle.rules.specs.Octets.{if_then_else_, padded, hasNul};
-ghost use Rattle.rules.specs.Writer.{room, impossible, beginJudged, endJudged, finishJudged};
+ghost use Rattle.rules.specs.Writer.{room, impossible, beginJudged, endJudged, finishJudged, badList};
 ghost use Rattle.writer.specs.Meaning.{stateOf};
-ghost use Rattle.writer.specs.Judged.{verdictOf, placeOf, placed};
+ghost use Rattle.writer.specs.Judged.{verdictOf, placeOf, placed, phandlePlaced};
 
 // What the tests of a call come to.
 pub(crate) enum Judged {
@@ -201,4 +202,60 @@ pub(crate) fn property(
         return Place::Not(Error::NoRoom);
     }
     Place::At(offset)
+}
+
+// Whether a list of strings, each closed by NUL, has a last one that is not.
+pub(crate) fn bad_list(s: &[u8]) -> bool
+    ensures { λ r. ⌜ r ≡ badList (now (s .entry)) ⌝ }
+{
+    if s.len() == 0 {
+        return false;
+    }
+    s[s.len() - 1] != 0
+}
+
+// Whether the number is one of the first n.
+fn noted(phandles: &[u32], n: usize, val: u32) -> bool
+    requires { ⌜ n ≤ length (now phandles) ⌝ }
+    ensures { λ r. ⌜ r ≡ oneOf val (take n (now (phandles .entry))) ⌝ }
+{
+    let mut i = 0;
+    while i < n {
+        if val == phandles[i] {
+            return true;
+        }
+        i += 1;
+    }
+    false
+}
+
+// The tests of the property `phandle`, which takes 16 bytes of data.
+pub(crate) fn phandle(
+    w: FdtWriter,
+    data_lent: usize,
+    strings: &[u8],
+    phandles: &[u32],
+    val: u32,
+) -> Place
+    ensures { λ r. ⌜ placeOf r ≡ phandlePlaced (stateOf w) «data_lent» (now (strings .entry)) (now (phandles .entry)) val ⌝ }
+{
+    if impossible(w, data_lent, strings.len()) {
+        return Place::Not(Error::ImpossibleState);
+    }
+    let n = w.phandles_len;
+    if phandles.len() < n {
+        return Place::Not(Error::ImpossibleState);
+    }
+    if noted(phandles, n, val) {
+        return Place::Not(Error::DuplicatePhandle);
+    }
+    match property(w, data_lent, strings, false, b"phandle", 16) {
+        Place::Not(e) => Place::Not(e),
+        Place::At(offset) => {
+            if phandles.len() == n {
+                return Place::Not(Error::NoRoom);
+            }
+            Place::At(offset)
+        }
+    }
 }

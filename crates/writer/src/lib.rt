@@ -10,10 +10,11 @@ use rules::FDT_MAGIC;
 use rules::FDT_VERSION;
 ghost use mathlib.Core.Path.{_≡_};
 ghost use mathlib.Core.Bool.{false};
+ghost use mathlib.Core.List.{[]};
 ghost use Prim.Native.Nat.{_+_, _≤_};
 ghost use lib.ListN.{length};
-ghost use Rattle.rules.specs.Octets.{lay};
-ghost use Rattle.rules.specs.Writer.{beginNode, beginNodeData, endNode, endNodeData, setBootCpu, property, propertyData, propertyStrings, finish, finishData};
+ghost use Rattle.rules.specs.Octets.{be32, be64, words32, words64, closed, lay};
+ghost use Rattle.rules.specs.Writer.{beginNode, beginNodeData, endNode, endNodeData, setBootCpu, property, propertyData, propertyStrings, badString, badList, phandle, phandleData, phandleStrings, phandleTable, finish, finishData};
 ghost use Rattle.writer.specs.Meaning.{stateOf, meaning};
 ghost use Rattle.writer.specs.Judged.{grown, longer};
 
@@ -139,6 +140,29 @@ impl FdtWriter {
         self
     }
 
+    // Writes a property of these bytes; `own` says that they break the rule of the helper that was called.
+    fn property_bytes(
+        mut self,
+        data: &mut [u8],
+        strings: &mut [u8],
+        own: bool,
+        name: &[u8],
+        val: &[u8],
+    ) -> Written
+        ensures answer { λ r. ⌜ meaning r ≡ property (stateOf self) (length (now («data» .entry))) (now (strings .entry)) own (now (name .entry)) (now (val .entry)) ⌝ }
+        ensures bytes { λ _. ⌜ now («data» .exit) ≡ propertyData (stateOf self) (now («data» .entry)) (now (strings .entry)) own (now (name .entry)) (now (val .entry)) ⌝ }
+        ensures names { λ _. ⌜ now (strings .exit) ≡ propertyStrings (stateOf self) (length (now («data» .entry))) (now (strings .entry)) own (now (name .entry)) (now (val .entry)) ⌝ }
+    {
+        let size = judge::property_size(val.len());
+        match judge::property(self, data.len(), strings, own, name, size) {
+            Place::Not(e) => Written::Refused(self, e),
+            Place::At(offset) => {
+                append::property(data, self.data_len, offset, val);
+                Written::Done(self.with_property(strings, offset, name, size))
+            }
+        }
+    }
+
     // Writes a property of the node opened last. Refuses, in this order: ImpossibleState (34), PropertyAfterEndNode (21),
     // PropertyBeforeBeginNode (20), InvalidString (24) for a NUL in the name, InvalidPropertyName (30), NoRoom (33) in data
     // or strings.
@@ -153,12 +177,154 @@ impl FdtWriter {
         ensures bytes { λ _. ⌜ now («data» .exit) ≡ propertyData (stateOf self) (now («data» .entry)) (now (strings .entry)) false (now (name .entry)) (now (val .entry)) ⌝ }
         ensures names { λ _. ⌜ now (strings .exit) ≡ propertyStrings (stateOf self) (length (now («data» .entry))) (now (strings .entry)) false (now (name .entry)) (now (val .entry)) ⌝ }
     {
-        let size = judge::property_size(val.len());
+        self.property_bytes(data, strings, false, name, val)
+    }
+
+    // Writes a property without a value. Refuses as `property` does.
+    pub fn property_null(mut self, data: &mut [u8], strings: &mut [u8], name: &[u8]) -> Written
+        ensures answer { λ r. ⌜ meaning r ≡ property (stateOf self) (length (now («data» .entry))) (now (strings .entry)) false (now (name .entry)) [] ⌝ }
+        ensures bytes { λ _. ⌜ now («data» .exit) ≡ propertyData (stateOf self) (now («data» .entry)) (now (strings .entry)) false (now (name .entry)) [] ⌝ }
+        ensures names { λ _. ⌜ now (strings .exit) ≡ propertyStrings (stateOf self) (length (now («data» .entry))) (now (strings .entry)) false (now (name .entry)) [] ⌝ }
+    {
+        self.property_bytes(data, strings, false, name, &[])
+    }
+
+    // Writes a property whose value is a string; its NUL is not lent. Refuses, behind ImpossibleState (34) and before all
+    // else that `property` refuses, a NUL in the string: InvalidString (24).
+    pub fn property_string(
+        mut self,
+        data: &mut [u8],
+        strings: &mut [u8],
+        name: &[u8],
+        val: &[u8],
+    ) -> Written
+        ensures answer { λ r. ⌜ meaning r ≡ property (stateOf self) (length (now («data» .entry))) (now (strings .entry)) (badString (now (val .entry))) (now (name .entry)) (closed (now (val .entry))) ⌝ }
+        ensures bytes { λ _. ⌜ now («data» .exit) ≡ propertyData (stateOf self) (now («data» .entry)) (now (strings .entry)) (badString (now (val .entry))) (now (name .entry)) (closed (now (val .entry))) ⌝ }
+        ensures names { λ _. ⌜ now (strings .exit) ≡ propertyStrings (stateOf self) (length (now («data» .entry))) (now (strings .entry)) (badString (now (val .entry))) (now (name .entry)) (closed (now (val .entry))) ⌝ }
+    {
+        let own = judge::has_nul(val);
+        let size = judge::property_size(val.len() + 1);
+        match judge::property(self, data.len(), strings, own, name, size) {
+            Place::Not(e) => Written::Refused(self, e),
+            Place::At(offset) => {
+                append::property_string(data, self.data_len, offset, val);
+                Written::Done(self.with_property(strings, offset, name, size))
+            }
+        }
+    }
+
+    // Writes a property whose value is strings, each lent with its NUL. Refuses, behind ImpossibleState (34) and before all
+    // else that `property` refuses, a last string without NUL: InvalidString (24).
+    pub fn property_string_list(
+        mut self,
+        data: &mut [u8],
+        strings: &mut [u8],
+        name: &[u8],
+        val: &[u8],
+    ) -> Written
+        ensures answer { λ r. ⌜ meaning r ≡ property (stateOf self) (length (now («data» .entry))) (now (strings .entry)) (badList (now (val .entry))) (now (name .entry)) (now (val .entry)) ⌝ }
+        ensures bytes { λ _. ⌜ now («data» .exit) ≡ propertyData (stateOf self) (now («data» .entry)) (now (strings .entry)) (badList (now (val .entry))) (now (name .entry)) (now (val .entry)) ⌝ }
+        ensures names { λ _. ⌜ now (strings .exit) ≡ propertyStrings (stateOf self) (length (now («data» .entry))) (now (strings .entry)) (badList (now (val .entry))) (now (name .entry)) (now (val .entry)) ⌝ }
+    {
+        self.property_bytes(data, strings, judge::bad_list(val), name, val)
+    }
+
+    // Writes a property whose value is a 32-bit number. Refuses as `property` does.
+    pub fn property_u32(
+        mut self,
+        data: &mut [u8],
+        strings: &mut [u8],
+        name: &[u8],
+        val: u32,
+    ) -> Written
+        ensures answer { λ r. ⌜ meaning r ≡ property (stateOf self) (length (now («data» .entry))) (now (strings .entry)) false (now (name .entry)) (be32 val) ⌝ }
+        ensures bytes { λ _. ⌜ now («data» .exit) ≡ propertyData (stateOf self) (now («data» .entry)) (now (strings .entry)) false (now (name .entry)) (be32 val) ⌝ }
+        ensures names { λ _. ⌜ now (strings .exit) ≡ propertyStrings (stateOf self) (length (now («data» .entry))) (now (strings .entry)) false (now (name .entry)) (be32 val) ⌝ }
+    {
+        self.property_array_u32(data, strings, name, &[val])
+    }
+
+    // Writes a property whose value is a 64-bit number. Refuses as `property` does.
+    pub fn property_u64(
+        mut self,
+        data: &mut [u8],
+        strings: &mut [u8],
+        name: &[u8],
+        val: u64,
+    ) -> Written
+        ensures answer { λ r. ⌜ meaning r ≡ property (stateOf self) (length (now («data» .entry))) (now (strings .entry)) false (now (name .entry)) (be64 val) ⌝ }
+        ensures bytes { λ _. ⌜ now («data» .exit) ≡ propertyData (stateOf self) (now («data» .entry)) (now (strings .entry)) false (now (name .entry)) (be64 val) ⌝ }
+        ensures names { λ _. ⌜ now (strings .exit) ≡ propertyStrings (stateOf self) (length (now («data» .entry))) (now (strings .entry)) false (now (name .entry)) (be64 val) ⌝ }
+    {
+        self.property_array_u64(data, strings, name, &[val])
+    }
+
+    // Writes a property whose value is 32-bit numbers. Refuses as `property` does.
+    pub fn property_array_u32(
+        mut self,
+        data: &mut [u8],
+        strings: &mut [u8],
+        name: &[u8],
+        cells: &[u32],
+    ) -> Written
+        ensures answer { λ r. ⌜ meaning r ≡ property (stateOf self) (length (now («data» .entry))) (now (strings .entry)) false (now (name .entry)) (words32 (now (cells .entry))) ⌝ }
+        ensures bytes { λ _. ⌜ now («data» .exit) ≡ propertyData (stateOf self) (now («data» .entry)) (now (strings .entry)) false (now (name .entry)) (words32 (now (cells .entry))) ⌝ }
+        ensures names { λ _. ⌜ now (strings .exit) ≡ propertyStrings (stateOf self) (length (now («data» .entry))) (now (strings .entry)) false (now (name .entry)) (words32 (now (cells .entry))) ⌝ }
+    {
+        let size = judge::property_size(cells.len() * 4);
         match judge::property(self, data.len(), strings, false, name, size) {
             Place::Not(e) => Written::Refused(self, e),
             Place::At(offset) => {
-                append::property(data, self.data_len, offset, val);
+                append::property_words(data, self.data_len, offset, cells);
                 Written::Done(self.with_property(strings, offset, name, size))
+            }
+        }
+    }
+
+    // Writes a property whose value is 64-bit numbers. Refuses as `property` does.
+    pub fn property_array_u64(
+        mut self,
+        data: &mut [u8],
+        strings: &mut [u8],
+        name: &[u8],
+        cells: &[u64],
+    ) -> Written
+        ensures answer { λ r. ⌜ meaning r ≡ property (stateOf self) (length (now («data» .entry))) (now (strings .entry)) false (now (name .entry)) (words64 (now (cells .entry))) ⌝ }
+        ensures bytes { λ _. ⌜ now («data» .exit) ≡ propertyData (stateOf self) (now («data» .entry)) (now (strings .entry)) false (now (name .entry)) (words64 (now (cells .entry))) ⌝ }
+        ensures names { λ _. ⌜ now (strings .exit) ≡ propertyStrings (stateOf self) (length (now («data» .entry))) (now (strings .entry)) false (now (name .entry)) (words64 (now (cells .entry))) ⌝ }
+    {
+        let size = judge::property_size(cells.len() * 8);
+        match judge::property(self, data.len(), strings, false, name, size) {
+            Place::Not(e) => Written::Refused(self, e),
+            Place::At(offset) => {
+                append::property_longs(data, self.data_len, offset, cells);
+                Written::Done(self.with_property(strings, offset, name, size))
+            }
+        }
+    }
+
+    // Writes the property `phandle` and notes its number behind those noted. Refuses, in this order: ImpossibleState (34),
+    // also where more numbers are noted than lent; DuplicatePhandle (32) for a number noted before; what `property` refuses;
+    // NoRoom (33) for another number. A refused call notes nothing.
+    pub fn property_phandle(
+        mut self,
+        data: &mut [u8],
+        strings: &mut [u8],
+        phandles: &mut [u32],
+        val: u32,
+    ) -> Written
+        ensures answer { λ r. ⌜ meaning r ≡ phandle (stateOf self) (length (now («data» .entry))) (now (strings .entry)) (now (phandles .entry)) val ⌝ }
+        ensures bytes { λ _. ⌜ now («data» .exit) ≡ phandleData (stateOf self) (now («data» .entry)) (now (strings .entry)) (now (phandles .entry)) val ⌝ }
+        ensures names { λ _. ⌜ now (strings .exit) ≡ phandleStrings (stateOf self) (length (now («data» .entry))) (now (strings .entry)) (now (phandles .entry)) val ⌝ }
+        ensures noted { λ _. ⌜ now (phandles .exit) ≡ phandleTable (stateOf self) (length (now («data» .entry))) (now (strings .entry)) (now (phandles .entry)) val ⌝ }
+    {
+        match judge::phandle(self, data.len(), strings, phandles, val) {
+            Place::Not(e) => Written::Refused(self, e),
+            Place::At(offset) => {
+                append::property_words(data, self.data_len, offset, &[val]);
+                octets::put_word_of(phandles, self.phandles_len, val);
+                self.phandles_len += 1;
+                Written::Done(self.with_property(strings, offset, b"phandle", 16))
             }
         }
     }

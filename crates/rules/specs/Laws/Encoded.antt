@@ -2,10 +2,10 @@
 use mathlib.Core.Path.{_≡_, refl, sym, ap, _∙_}
 use mathlib.Core.Bool.{Bool, true, false, _&&_}
 use mathlib.Core.List.{[], _∷_, _++_, append-assoc, append-nil, List·Memᴰ·head, List·Memᴰ·tail}
-use Prim.Native.Nat.{ℕ, suc, _+_, _-_, _*_, _/_, _%_, _≤_, _<_}
+use Prim.Native.Nat.{ℕ, suc, _+_, _-_, _≤_, _<_}
 use native.Mathlib.Omega.{arith}
-use lib.ListN.{length, getD, take, drop, length-append}
-use lib.Seq.{getD-append-add, take-at, drop-at, drop-drop, drop-append-le}
+use lib.ListN.{length, take, drop, length-append}
+use lib.Seq.{take-at, drop-at, drop-drop, drop-append-le}
 use lib.Dec.{eqb, ltb}
 use borrow.Author.Tests.{ne-eqb, le-leb, lt-ltb, ltb-true, ltb-false}
 use Rattle.rules.specs.Octets.{Bytes, wordAt, longAt, be32, be64, zeros, padded, filled, part, nulIn, closed, begins}
@@ -17,36 +17,13 @@ use Rattle.rules.specs.declared.Token.the-variants.{Item, End}
 use Rattle.rules.specs.declared.Kind.the-variants.{Begin, EndNode, Prop}
 use Rattle.rules.specs.Listing.{_∈_}
 use Rattle.rules.specs.Laws.Tests.{by-test, and-true}
-use Rattle.rules.specs.Laws.Octets.{length-be32, length-zeros, begins-split}
+use Rattle.rules.specs.Laws.Octets.{length-be64, part-between, word-be32, long-be64, length-filled, length-be32, begins-split}
 
 -- ---- words
 
-div-twice : (v : ℕ) → v / 65536 ≡ v / 256 / 256
-div-twice v = omega arith
-
-div-thrice : (v : ℕ) → v / 16777216 ≡ v / 65536 / 256
-div-thrice v = omega arith
-
--- four bytes are the number that they were made of
-four-bytes : (v : ℕ) → v < 4294967296 → v / 16777216 % 256 * 16777216 + v / 65536 % 256 * 65536 + v / 256 % 256 * 256 + v % 256 ≡ v
-four-bytes v h =
-    let x : ℕ = v / 256 in
-    let y : ℕ = v / 65536 in
-    let z : ℕ = v / 16777216 in
-    digits v x y z (v % 256) (x % 256) (y % 256) (z % 256) (omega arith) (omega (arith, div-twice v)) (omega (arith, div-thrice v)) (omega arith)
-  where
-    digits : (v x y z a b c d : ℕ) → v ≡ x * 256 + a → x ≡ y * 256 + b → y ≡ z * 256 + c → z ≡ d → d * 16777216 + c * 65536 + b * 256 + a ≡ v
-    digits v x y z a b c d e f g i = omega arith
-
 -- the word behind p is the one that was written there
 pub word-at : (p r : Bytes) (n at : ℕ) → length p ≡ at → n < 4294967296 → wordAt (p ++ (be32 n ++ r)) at ≡ n
-unfolding wordAt be32
-word-at p r n at e h =
-    let s : Bytes = p ++ (be32 n ++ r) in
-    let g : (k : ℕ) → getD s (at + k) 0 ≡ getD (be32 n ++ r) k 0 =
-    λ k. ap (λ (m : ℕ). getD s (m + k) 0) (sym e) ∙ getD-append-add p (be32 n ++ r) k 0 in
-    let g₀ : getD s at 0 ≡ getD (be32 n ++ r) 0 0 = ap (λ (m : ℕ). getD s m 0) (omega arith) ∙ g 0 in
-    rw (g₀, g 1, g 2, g 3) (four-bytes n h)
+word-at p r n at e h = word-be32 (p ++ (be32 n ++ r)) at n h (rw (e, length-be32 n) at (part-between p (be32 n) r))
 
 -- behind two parts
 behind-two : (p a b : Bytes) (at n : ℕ) → length p ≡ at → length a ≡ n → drop (at + n) (p ++ (a ++ b)) ≡ b
@@ -59,17 +36,7 @@ word-next p a r n at m e f h =
 
 -- the 64-bit number behind p
 pub long-at : (p r : Bytes) (n at : ℕ) → length p ≡ at → n < 18446744073709551616 → longAt (p ++ (be64 n ++ r)) at ≡ n
-unfolding longAt be64
-long-at p r n at e h =
-    let a = be32 (n / 4294967296) in
-    let b = be32 (n % 4294967296) in
-    let q : p ++ (a ++ b ++ r) ≡ p ++ (a ++ (b ++ r)) = ap (λ (s : Bytes). p ++ s) (append-assoc a b r) in
-    rw (
-      q,
-      word-at p (b ++ r) (n / 4294967296) at e (omega arith),
-      word-next p a r (n % 4294967296) at 4 e (length-be32 (n / 4294967296)) (omega arith),
-    )
-    (omega arith)
+long-at p r n at e h = long-be64 (p ++ (be64 n ++ r)) at n h (rw (e, length-be64 n) at (part-between p (be64 n) r))
 
 -- ---- names closed by NUL
 
@@ -80,13 +47,9 @@ nul-name (x ∷ xs) t h = rw (ne-eqb x 0 (λ e. h (List·Memᴰ·head (sym e))),
 
 -- ---- padding
 
-pub length-filled : (bs : Bytes) → length (filled bs) ≡ padded (length bs)
+filled-front : (bs r : Bytes) → take (length bs) (filled bs ++ r) ≡ bs
 unfolding filled
-length-filled bs = rw (length-append, length-zeros (padded (length bs) - length bs)) (omega arith)
-
-pub take-filled : (bs r : Bytes) → take (length bs) (filled bs ++ r) ≡ bs
-unfolding filled
-take-filled bs r =
+filled-front bs r =
     let z : Bytes = zeros (padded (length bs) - length bs) in
     ap (take (length bs)) (append-assoc bs z r) ∙ take-at bs (z ++ r) (length bs) refl
 
@@ -241,7 +204,7 @@ module _ (p r value : Bytes) (offset at : ℕ) (e : length p ≡ at) (small : le
       ∙ prop-is set (at + 4) (length value) offset set-word set-offset (omega arith))
 
   pub property-valued : part (p ++ (propertyBytes offset value ++ r)) (at + 4 + 8) (length value) ≡ value
-  property-valued = rw property-is-set (ap (take (length value)) set-behind ∙ take-filled value r)
+  property-valued = rw property-is-set (ap (take (length value)) set-behind ∙ filled-front value r)
 
 -- ---- strings
 

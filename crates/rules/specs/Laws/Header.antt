@@ -17,7 +17,7 @@ use Rattle.rules.specs.Blob.{Header, headerIn, entriesFrom, entriesIn, m
 use Rattle.rules.specs.Writer.{headerBytes}
 use Rattle.rules.specs.Laws.Tests.{by-test, never, or-false}
 use Rattle.rules.specs.Laws.Verdicts.{gives-refuses}
-use Rattle.rules.specs.Laws.Octets.{length-be32, length-be64}
+use Rattle.rules.specs.Laws.Octets.{length-words32, length-be32, length-be64}
 use Rattle.rules.specs.Laws.Encoded.{word-at, long-at}
 
 -- ---- what a header that passes says
@@ -111,15 +111,10 @@ words-at (v ∷ vs) r (suc i) h k =
     rw (append-assoc (be32 v) (words32 vs) r, q)
     (word-skip (be32 v) (words32 vs ++ r) 4 (4 * i) (length-be32 v) ∙ words-at vs r i (omega arith) k)
 
-pub length-words : (vs : List ℕ) → length (words32 vs) ≡ 4 * length vs
-unfolding words32
-length-words [] = refl
-length-words (v ∷ vs) = rw (length-append, length-be32 v, length-words vs) (omega arith)
-
 pub length-header : (total structure strings cpu stringsSize structureSize : ℕ)
     → length (headerBytes total structure strings cpu stringsSize structureSize) ≡ 40
 unfolding headerBytes
-length-header total structure strings cpu stringsSize structureSize = length-words _
+length-header total structure strings cpu stringsSize structureSize = length-words32 _
 
 module _ (total structure strings cpu stringsSize structureSize : ℕ) (r : Bytes) (small : total < 4294967296) (small₁ : structure < 4294967296)
     (small₂ : strings < 4294967296) (small₃ : cpu < 4294967296) (small₄ : stringsSize < 4294967296) (small₅ : structureSize < 4294967296) where

@@ -6,11 +6,12 @@ use Prim.Native.Nat.{ℕ, suc, _+_, _-_, _*_, _/_, _%_, _≤_, _<_, min}
 use native.Mathlib.Omega.{arith}
 use native.Mathlib.Numerals.{add-one}
 use lib.Dec.{eqb, ltb, leb}
-use lib.ListN.{length, take, drop, getD, replicate, length-append, length-take, take-append-drop}
-use lib.Seq.{take-suc, drop-cons, drop-drop}
+use lib.ListN.{length, take, drop, getD, replicate, length-append, length-take, take-append-drop, drop-of-length-le}
+use lib.Seq.{take-suc, drop-cons, getD-take, length-take-le}
 use borrow.Author.Tests.{eqb-true, eqb-false, eq-eqb, ne-eqb, ltb-true, ltb-false, lt-ltb, le-ltb}
 use Rattle.rules.specs.Octets.{Bytes, byteAt, be32, be64, words32, words64, zeros, padded, filled, lay, nulIn, closed, begins}
-use Rattle.rules.specs.Writer.{beginBytes, endBytes, propertyBytes, nameFrom, nameOffset, room}
+use Rattle.rules.specs.Lists.{oneOf}
+use Rattle.rules.specs.Writer.{beginBytes, endBytes, propertyBytes, nameFrom, nameOffset, badList}
 use Rattle.rules.specs.Laws.Tests.{by-test, both-ways, and-nothing}
 use Rattle.rules.specs.Laws.Octets.{lay-lay, lay-nil, lay-past, lay-more, length-be32, length-be64, length-zeros}
 
@@ -207,3 +208,38 @@ from-le t name (b ∷ s) = by-test (t && begins (closed name) (b ∷ s))
 
 pub offset-le : (name s : Bytes) → nameOffset name s ≤ length s
 offset-le name s = from-le true name s
+
+-- ---- a list of strings
+
+pub bad-none : (s : Bytes) → length s ≡ 0 → badList s ≡ false
+unfolding badList
+bad-none [] h = refl
+bad-none (b ∷ s) h = absurd (omega arith)
+
+-- its last byte decides
+pub bad-last : (s : Bytes) → 0 < length s → badList s ≡ not (eqb (byteAt s (length s - 1)) 0)
+unfolding badList
+bad-last [] h = absurd (omega arith)
+bad-last (b ∷ []) h = refl
+bad-last (b ∷ c ∷ s) h =
+    let e : length (b ∷ c ∷ s) - 1 ≡ suc (length (c ∷ s) - 1) = omega arith in
+    rw e (bad-last (c ∷ s) (omega arith))
+
+-- ---- a number among the first n
+
+module _ (b : ℕ) (s : List ℕ) (n i : ℕ) where
+  one-of-step : i < n → n ≤ length s → oneOf b (drop i (take n s)) ≡ eqb b (getD s i 0) || oneOf b (drop (i + 1) (take n s))
+  unfolding oneOf
+  one-of-step h k =
+      let l : i < length (take n s) = omega (arith, length-take-le n s k) in
+      rw (add-one i, drop-cons (take n s) i 0 l, getD-take n s i 0 h)
+
+  pub one-of-here : i < n → n ≤ length s → b ≡ getD s i 0 → oneOf b (drop i (take n s)) ≡ true
+  one-of-here h k e = rw (one-of-step h k, eq-eqb b (getD s i 0) e)
+
+  pub one-of-more : i < n → n ≤ length s → (b ≡ getD s i 0 → ⊥) → oneOf b (drop i (take n s)) ≡ oneOf b (drop (i + 1) (take n s))
+  one-of-more h k e = rw (one-of-step h k, ne-eqb b (getD s i 0) e)
+
+  pub one-of-end : n ≤ i → oneOf b (drop i (take n s)) ≡ false
+  unfolding oneOf
+  one-of-end h = rw (drop-of-length-le (take n s) {i = i} (omega (arith, length-take n s)))
