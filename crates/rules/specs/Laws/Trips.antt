@@ -10,3 +10,4 @@ pub mod Places
 pub mod Derived
 pub mod Found
 pub mod Parsed
+pub mod Exact
