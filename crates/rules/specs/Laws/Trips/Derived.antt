@@ -1,25 +1,22 @@
 -- What the grammar derives, within 01's limits, the reader's walk accepts, and says the same.
 use mathlib.Core.Path.{_≡_, refl, sym, ap, _∙_}
-use mathlib.Core.Bool.{Bool, true, false, not}
+use mathlib.Core.Bool.{Bool, true, false}
 use mathlib.Core.List.{List, [], _∷_, _++_, append-assoc, append-nil}
-use Prim.Native.Nat.{ℕ, zero, suc, _+_, _≤_, _<_, max}
+use Prim.Native.Nat.{ℕ, suc, _+_, _≤_, _<_}
 use native.Mathlib.Nat.{add-zero}
 use native.Mathlib.Omega.{arith}
-use lib.Dec.{eqb, leb}
 use lib.ListN.{length, drop, length-drop}
 use borrow.Author.Tests.{eq-eqb, ne-eqb, lt-leb}
 use Rattle.rules.specs.Ceilings.{openCeiling, nodeCeiling}
 use Rattle.rules.specs.Octets.{Bytes, padded, hasNul}
 use Rattle.rules.specs.Names.{nodeNameReads, propertyNameReads}
-use Rattle.rules.specs.Outcome.{Verdict, passes}
+use Rattle.rules.specs.Outcome.{passes}
 use Rattle.rules.specs.Blob.{Block}
-use Rattle.rules.specs.Tokens.{tokenAt}
-use Rattle.rules.specs.Events.{Walk, atStart, Step, go, done, nodeNameAt, opening, closing, holding, ending, after, shapeJudged, Event, opens, has, closes, eventsIn}
+use Rattle.rules.specs.Events.{Walk, atStart, go, nodeNameAt, opening, closing, holding, ending, shapeJudged, Event, opens, closes, eventsIn}
 use Rattle.rules.specs.Written.{hasSaid, unplaced}
-use Rattle.rules.specs.declared.Token.the-variants.{Item, End}
 use Rattle.rules.specs.declared.Kind.the-variants.{Begin, EndNode, Prop, Nop}
 use Rattle.rules.specs.Laws.Events.{judgedAt, eventsAt, judged-all, events-all, judged-item, judged-end, events-item, events-end}
-use Rattle.rules.specs.Laws.Trips.Grammar.{Forest, empty, node, Word, Pads, Stands, Props, no-props, nop-props, prop, Nodes, no-nodes, nop-nodes, a-node, Structure, a-root, size, height, PropsNamed, Named, Rooted, Limits, tellProps, tell}
+use Rattle.rules.specs.Laws.Trips.Grammar.{Forest, empty, node, Word, Pads, Stands, Props, no-props, nop-props, prop, Nodes, no-nodes, nop-nodes, a-node, Structure, a-root, size, height, PropsNamed, Named, Limits, tellProps, tell}
 use Rattle.rules.specs.Laws.Trips.Places.{fits, past, nop-here, close-here, end-here, begin-here, begin-past, begin-fits, name-here, prop-here, prop-past, prop-fits, value-here, string-here, reads-here}
 
 abbrev walk : List ℕ → ℕ → Bool → Walk
@@ -39,11 +36,18 @@ module _ (b : Block) where
 
   then-went : {at : ℕ} {r r′ : Bytes} {w v u : Walk} {F G : List Event → List Event} → (g : Went at r w v F) → Went (g .to) r′ v u G
       → Went at r′ w u (λ es. F (G es))
-  then-went {F = F} g h = record { to = h .to; there = h .there; inside = h .inside; judged = g .judged ∙ h .judged; events = g .events ∙ ap F (h .events) }
+  then-went {F = F} g h =
+      record { to = h .to; there = h .there; inside = h .inside; judged = g .judged ∙ h .judged; events = g .events ∙ ap F (h .events) }
 
   three-went : {at : ℕ} {r r′ r″ : Bytes} {w v u x : Walk} {F G H : List Event → List Event} → (g : Went at r w v F) → (h : Went (g .to) r′ v u G)
       → Went (h .to) r″ u x H → Went at r″ w x (λ es. F (G (H es)))
   three-went g h k = then-went g (then-went h k)
+
+  -- the same, where the last leaves it open whether a child has ended
+  last-went : {at : ℕ} {r r′ r″ : Bytes} {w v u : Walk} {x : Bool → Walk} {F G H : List Event → List Event} → (g : Went at r w v F)
+      → (h : Went (g .to) r′ v u G) → (ended : Bool) × Went (h .to) r″ u (x ended) H
+      → (ended : Bool) × Went at r″ w (x ended) (λ es. F (G (H es)))
+  last-went g h k = (k .0, three-went g h (k .1))
 
   module _ (at : ℕ) (i : at ≤ length s) where
     nothing-went : (r : Bytes) → drop at s ≡ r → (w : Walk) → Went at r w w (λ es. es)
@@ -77,7 +81,8 @@ module _ (b : Block) where
         }
 
     -- BEGIN
-    begin-went : (tag name pad r : Bytes) → drop at s ≡ tag ++ (name ++ (0 ∷ (pad ++ r))) → Word 1 tag → hasNul name ≡ false → Pads (length name + 1) pad
+    begin-went : (tag name pad r : Bytes) → drop at s ≡ tag ++ (name ++ (0 ∷ (pad ++ r))) → Word 1 tag → hasNul name ≡ false
+        → Pads (length name + 1) pad
         → (w v : Walk) → opening w name ≡ go v → Went at r w v (λ es. opens 0 name ∷ es)
     unfolding unplaced
     begin-went tag name pad r e o p q w v h =
@@ -137,7 +142,8 @@ module _ (b : Block) where
   unfolding tellProps
   prop-go tag len off pad r name value offset ps o l f k q n h at i rest e j stack count =
       let g =
-      prop-went at i tag len off value pad (r ++ rest) name offset (e ∙ simp append-assoc) o l f q k (walk (j ∷ stack) count false) (hold-go name j stack count n) in
+      prop-went at i tag len off value pad (r ++ rest) name offset (e ∙ simp append-assoc) o l f q k (walk (j ∷ stack) count false)
+      (hold-go name j stack count n) in
       then-went g (h (g .to) (g .inside) rest (g .there) j stack count)
 
   props-go : {bs : Bytes} {ps : List (Bytes × Bytes)} → Props (b .strings) bs ps → PropsNamed ps → PropsGo bs ps
@@ -186,18 +192,20 @@ module _ (b : Block) where
   unfolding tell size height
   node-go tag pad a c end r name props below beside o p q z n ps ns hs at i rest e j stack count ended d m =
       let g =
-      begin-went at i tag name pad (a ++ (c ++ (end ++ (r ++ rest)))) (e ∙ simp append-assoc) o p q (walk (j ∷ stack) count ended) (walk (count ∷ j ∷ stack) (suc count) false)
+      begin-went at i tag name pad (a ++ (c ++ (end ++ (r ++ rest)))) (e ∙ simp append-assoc) o p q (walk (j ∷ stack) count ended)
+      (walk (count ∷ j ∷ stack) (suc count) false)
       (child-opens name j stack count ended n (omega arith) (omega arith)) in
-      let h = inner-went a c end (r ++ rest) props below ps ns z (g .to) (g .inside) (g .there) count (j ∷ stack) (suc count) (omega arith) (omega arith) in
+      let h =
+      inner-went a c end (r ++ rest) props below ps ns z (g .to) (g .inside) (g .there) count (j ∷ stack) (suc count) (omega arith) (omega arith) in
       let k = hs (h .to) (h .inside) rest (h .there) j stack (suc count + size below) true (omega arith) (omega arith) in
       let y : count + suc (size below + size beside) ≡ suc count + size below + size beside = omega arith in
-      (k .0, rw y (three-went g h (k .1)))
+      rw y (last-went {x = walk (j ∷ stack) (suc count + size below + size beside)} g h k)
 
   nodes-go : {bs : Bytes} {f : Forest} → Nodes (b .strings) bs f → Named f → NodesGo bs f
   nodes-go no-nodes n = no-nodes-go
   nodes-go (nop-nodes {w = w} {r = r} {f = f} o d) n = nop-nodes-go w r f o (nodes-go d n)
-  nodes-go (a-node {tag = tag} {pad = pad} {a = a} {b = c} {end = end} {r = r} {name = name} {props = props} {below = below} {beside = beside} o p q ps ns z hs) n =
-      node-go tag pad a c end r name props below beside o p q z (n .0) (props-go ps (n .1)) (nodes-go ns (n .2)) (nodes-go hs (n .3))
+  nodes-go (a-node {a = a} {b = c} {r = r} {name = name} {props = props} {below = below} {beside = beside} o p q ps ns z hs) n =
+      node-go _ _ a c _ r name props below beside o p q z (n .0) (props-go ps (n .1)) (nodes-go ns (n .2)) (nodes-go hs (n .3))
 
   -- ---- the root
 
@@ -234,7 +242,8 @@ module _ (b : Block) where
   unfolding tell size height
   root-go tag pad a c end r name props below o p q z n ps ns hs d m at i rest e =
       let g =
-      begin-went at i tag name pad (a ++ (c ++ (end ++ (r ++ rest)))) (e ∙ simp append-assoc) o p q atStart (walk (0 ∷ []) 1 false) (root-opens name n) in
+      begin-went at i tag name pad (a ++ (c ++ (end ++ (r ++ rest)))) (e ∙ simp append-assoc) o p q atStart (walk (0 ∷ []) 1 false)
+      (root-opens name n) in
       let h = inner-went a c end (r ++ rest) props below ps ns z (g .to) (g .inside) (g .there) 0 [] 1 (omega arith) (omega arith) in
       let k = hs (h .to) (h .inside) rest (h .there) (walk [] (1 + size below) true) in
       let y : suc (size below + 0) ≡ 1 + size below = omega arith in
@@ -245,8 +254,8 @@ module _ (b : Block) where
   roots-go (nop-nodes {w = w} {r = r} {f = f} o t) n d m = λ at i rest e.
       let g = nop-went at i w (r ++ rest) (e ∙ append-assoc w r rest) o atStart in
       then-went g (roots-go t n d m (g .to) (g .inside) rest (g .there))
-  roots-go (a-node {tag = tag} {pad = pad} {a = a} {b = c} {end = end} {r = r} {name = name} {props = props} {below = below} {beside = empty} o p q ps ns z hs) n d m =
-      root-go tag pad a c end r name props below o p q z (n .0) (props-go ps (n .1)) (nodes-go ns (n .2)) (blank-went hs tt) d m
+  roots-go (a-node {a = a} {b = c} {r = r} {name = name} {props = props} {below = below} {beside = empty} o p q ps ns z hs) n d m =
+      root-go _ _ a c _ r name props below o p q z (n .0) (props-go ps (n .1)) (nodes-go ns (n .2)) (blank-went hs tt) d m
   roots-go (a-node {beside = node _ _ _ _} o p q ps ns z hs) n d m = absurd (n .3)
 
   -- END at the end
@@ -256,8 +265,10 @@ module _ (b : Block) where
   end-went end at i e o count c =
       let f : drop at s ≡ end ++ [] = e ∙ sym (append-nil end) in
       let t = end-here s at end [] f o in
-      let n : at + 4 ≡ length s = omega (arith, sym (length-drop at s) ∙ ap length e ∙ o .four) in
-      (judged-end b at i (walk [] count true) t ∙ rw (ne-eqb count 0 (λ (z : count ≡ 0). omega arith), eq-eqb (at + 4) (length s) n), events-end b at i t)
+      let n : at + 4 ≡ length s = omega (arith, sym (length-drop at s) ∙ ap length e ∙ o .four) in (
+        judged-end b at i (walk [] count true) t ∙ rw (ne-eqb count 0 (λ (z : count ≡ 0). omega arith), eq-eqb (at + 4) (length s) n),
+        events-end b at i t,
+      )
 
   whole-went : (bs end : Bytes) (f : Forest) → RootGoes bs f → Word 9 end → 0 < size f → s ≡ bs ++ end
       → (shapeJudged b ≡ passes) × (unplaced (eventsIn b) ≡ tell f [])
@@ -271,7 +282,8 @@ module _ (b : Block) where
   unfolding size
   root-size name props below = omega arith
 
-  derived : {bs : Bytes} {f : Forest} → Structure (b .strings) bs f → s ≡ bs → Limits f → (shapeJudged b ≡ passes) × (unplaced (eventsIn b) ≡ tell f [])
+  derived : {bs : Bytes} {f : Forest} → Structure (b .strings) bs f → s ≡ bs → Limits f
+      → (shapeJudged b ≡ passes) × (unplaced (eventsIn b) ≡ tell f [])
   derived (a-root {s = bs} {end = end} {name = name} {props = props} {below = below} d o) e l =
       let n = l .names in
       whole-went bs end (node name props below empty) (roots-go d (n .0, n .1, n .2, tt) (l .deep) (l .many)) o (root-size name props below) e

@@ -2,12 +2,11 @@
 use mathlib.Core.Path.{_≡_, refl, sym, ap, _∙_, subst}
 use mathlib.Core.Logic.{_↔_}
 use mathlib.Core.List.{List, [], _∷_}
-use Prim.Native.Nat.{ℕ}
 use Rattle.rules.specs.Octets.{Bytes}
 use Rattle.rules.specs.Outcome.{passes}
 use Rattle.rules.specs.Blob.{Block}
-use Rattle.rules.specs.Events.{Property, Event, opens, has, closes, shapeJudged, eventsIn}
-use Rattle.rules.specs.Written.{hasSaid, unplaced}
+use Rattle.rules.specs.Events.{Property, Event, opens, has, closes, shapeJudged}
+use Rattle.rules.specs.Written.{hasSaid}
 use Rattle.rules.specs.Laws.Trips.Grammar.{Forest, empty, node, Structure, Limits, tellProps, tell}
 use Rattle.rules.specs.Laws.Trips.Derived.{grammar-reads}
 use Rattle.rules.specs.Laws.Trips.Parsed.{reads-grammar}

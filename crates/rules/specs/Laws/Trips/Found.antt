@@ -1,22 +1,21 @@
 -- The bytes of a token that was found: an item's tag, name, words, value and padding, as the grammar wants them.
-use mathlib.Core.Path.{_≡_, refl, sym, ap, _∙_, subst}
-use mathlib.Core.Bool.{Bool, true, false, _&&_}
-use mathlib.Core.List.{List, [], _∷_, _++_, append-assoc}
-use Prim.Native.Nat.{ℕ, zero, suc, _+_, _-_, _*_, _≤_, _<_}
-use native.Mathlib.Nat.{add-zero, add-assoc}
+use mathlib.Core.Path.{_≡_, refl, sym, ap, _∙_}
+use mathlib.Core.Bool.{true, false}
+use mathlib.Core.List.{_∷_, _++_}
+use Prim.Native.Nat.{ℕ, _+_, _-_, _≤_, _<_}
+use native.Mathlib.Nat.{add-zero}
 use native.Mathlib.Numerals.{add-one}
 use native.Mathlib.Omega.{arith}
-use lib.Dec.{eqb, leb, ltb}
-use lib.ListN.{length, getD, take, drop, length-append, length-drop, take-append-drop}
+use lib.Dec.{eqb, leb}
+use lib.ListN.{length, take, drop, length-drop, take-append-drop}
 use lib.Seq.{drop-drop, drop-cons, getD-take, length-take-le}
 use borrow.Author.Tests.{eqb-true, leb-true, ltb-true}
-use Rattle.rules.specs.Octets.{Bytes, byteAt, wordAt, padded, part, nulIn, hasNul}
+use Rattle.rules.specs.Octets.{Bytes, wordAt, padded, part, nulIn, hasNul}
 use Rattle.rules.specs.Names.{propertyNameReads}
 use Rattle.rules.specs.Tokens.{whole, beginAt, propAt, tagged, tokenAt}
 use Rattle.rules.specs.Events.{nodeNameAt, stringAt, propertyReads}
 use Rattle.rules.specs.declared.Token.{Token}
 use Rattle.rules.specs.declared.Token.the-variants.{Item, End, Cut}
-use Rattle.rules.specs.declared.Kind.{Kind}
 use Rattle.rules.specs.declared.Kind.the-variants.{Begin, EndNode, Prop, Nop}
 use Rattle.rules.specs.Laws.Tests.{and-true}
 use Rattle.rules.specs.Laws.Octets.{length-part, word-part, nul-byte, nul-before, has-nul-not}

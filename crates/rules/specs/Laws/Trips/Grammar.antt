@@ -3,7 +3,7 @@
 use mathlib.Core.Path.{_≡_}
 use mathlib.Core.Bool.{false, true}
 use mathlib.Core.List.{List, [], _∷_, _++_}
-use Prim.Native.Nat.{ℕ, zero, suc, _+_, _≤_, max}
+use Prim.Native.Nat.{ℕ, suc, _+_, _≤_, max}
 use lib.ListN.{length, drop}
 use Rattle.rules.specs.Ceilings.{openCeiling, nodeCeiling}
 use Rattle.rules.specs.Octets.{Bytes, wordAt, padded, hasNul}

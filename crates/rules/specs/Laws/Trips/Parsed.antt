@@ -1,8 +1,8 @@
 -- What the reader's walk accepts the grammar derives, within 01's limits, and of nodes that say the same.
-use mathlib.Core.Path.{_≡_, refl, sym, ap, _∙_, subst}
+use mathlib.Core.Path.{_≡_, refl, sym, ap, _∙_}
 use mathlib.Core.Bool.{Bool, true, false, not}
 use mathlib.Core.List.{List, [], _∷_, _++_, append-assoc, append-nil}
-use Prim.Native.Nat.{ℕ, zero, suc, _+_, _≤_, _<_, max}
+use Prim.Native.Nat.{ℕ, zero, suc, _+_, _≤_, _<_}
 use native.Mathlib.Nat.{add-zero}
 use native.Mathlib.Omega.{arith}
 use lib.Dec.{eqb}
@@ -13,17 +13,16 @@ use Rattle.rules.specs.Octets.{Bytes, part, hasNul}
 use Rattle.rules.specs.Names.{nodeNameReads, propertyNameReads}
 use Rattle.rules.specs.Outcome.{passes}
 use Rattle.rules.specs.Blob.{Block}
-use Rattle.rules.specs.Tokens.{Placed, tokenAt, following, tokensFrom, tokens}
-use Rattle.rules.specs.Events.{Walk, atStart, nodeNameAt, stringAt, propertyReads, ending, onToken, after, judge, shapeJudged, Event, opens, has, closes, saying, eventsOf, eventsIn}
+use Rattle.rules.specs.Tokens.{tokenAt, following, tokensFrom, tokens}
+use Rattle.rules.specs.Events.{Walk, nodeNameAt, stringAt, propertyReads, ending, onToken, after, judge, shapeJudged, Event, opens, has, closes, saying, eventsOf, eventsIn}
 use Rattle.rules.specs.Written.{hasSaid, unplaced}
 use Rattle.rules.specs.declared.Token.{Token}
 use Rattle.rules.specs.declared.Token.the-variants.{Item, End, Cut}
-use Rattle.rules.specs.declared.Kind.{Kind}
 use Rattle.rules.specs.declared.Kind.the-variants.{Begin, EndNode, Prop, Nop}
 use Rattle.rules.specs.Laws.Tests.{by-test, never}
 use Rattle.rules.specs.Laws.Verdicts.{gives-refuses}
-use Rattle.rules.specs.Laws.Shape.{Opens, opening-passes, Closes, closing-passes, Holds, holding-passes}
-use Rattle.rules.specs.Laws.Trips.Grammar.{Forest, empty, node, Word, Pads, Stands, Props, no-props, nop-props, prop, Nodes, no-nodes, nop-nodes, a-node, Structure, a-root, size, height, PropsNamed, Named, Rooted, Limits, tellProps, tell}
+use Rattle.rules.specs.Laws.Shape.{opening-passes, closing-passes, holding-passes}
+use Rattle.rules.specs.Laws.Trips.Grammar.{Forest, empty, node, Word, Pads, Stands, Props, no-props, nop-props, prop, Nodes, no-nodes, nop-nodes, a-node, Structure, a-root, size, height, PropsNamed, Named, Limits, tellProps, tell}
 use Rattle.rules.specs.Laws.Trips.Found.{Seen, token-seen, Tagged, tag-found, Begun, begin-found, Propped, prop-found, stands-found}
 
 -- ---- what is left of a structure, while `depth` nodes are open and `count` have been opened
@@ -59,7 +58,8 @@ record Last (strings : Bytes) (bs : Bytes) (es : List Event) : Type 0 where
   bytes : bs ≡ ns ++ end
   says : es ≡ []
 
-closed : {strings : Bytes} {depth count : ℕ} {bs : Bytes} {es : List Event} → Suffix strings (suc depth) count bs es → Closed strings depth count bs es
+closed : {strings : Bytes} {depth count : ℕ} {bs : Bytes} {es : List Event} → Suffix strings (suc depth) count bs es
+    → Closed strings depth count bs es
 closed (close {c = c} {end = end} {r = r} {f = f} {es = es} n m d k o x) =
     record { c = c; end = end; r = r; f = f; later = es; nodes = n; named = m; deep = d; many = k; word = o; suffix = x; bytes = refl; says = refl }
 
@@ -102,7 +102,8 @@ join-says : (ps : List (Bytes × Bytes)) (f : Forest) {es es₁ es₂ es₃ : Li
 join-says ps f e g h = e ∙ ap (tellProps ps) (g ∙ ap (λ (l : List Event). tell f (closes 0 ∷ l)) h)
 
 module _ (strings : Bytes) where
-  moved : {depth count : ℕ} {bs bs′ : Bytes} {es es′ : List Event} → bs′ ≡ bs → es′ ≡ es → Suffix strings depth count bs es → Suffix strings depth count bs′ es′
+  moved : {depth count : ℕ} {bs bs′ : Bytes} {es es′ : List Event} → bs′ ≡ bs → es′ ≡ es → Suffix strings depth count bs es
+      → Suffix strings depth count bs′ es′
   moved e f x = rw (e, f) x
 
   -- with no property yet
@@ -140,8 +141,10 @@ module _ (strings : Bytes) where
         let b = z .deep in
         let k = z .many in
         let m : suc count + size (y .f) + size (z .f) ≡ count + size (node name (x .ps) (y .f) (z .f)) = omega arith in
-        moved (join tag name pad (x .a) (y .c) (y .end) (z .end ++ z .r) (z .c) (x .bytes) (y .bytes) (z .bytes)) (ap (λ (l : List Event). opens 0 name ∷ l) (join-says (x .ps) (y .f) (x .says) (y .says) (z .says)))
-        (close (a-node o p q (x .props) (y .nodes) (y .word) (z .nodes)) (n, x .named, y .named, z .named) (omega arith) (omega arith) (z .word) (rw m at (z .suffix)))
+        moved (join tag name pad (x .a) (y .c) (y .end) (z .end ++ z .r) (z .c) (x .bytes) (y .bytes) (z .bytes))
+        (ap (λ (l : List Event). opens 0 name ∷ l) (join-says (x .ps) (y .f) (x .says) (y .says) (z .says)))
+        (close (a-node o p q (x .props) (y .nodes) (y .word) (z .nodes)) (n, x .named, y .named, z .named) (omega arith) (omega arith)
+        (z .word) (rw m at (z .suffix)))
 
     root-rest : (es : List Event) → length name ≡ 0 → Inner strings 1 1 r es → Whole strings (tag ++ (name ++ (0 ∷ (pad ++ r)))) (opens 0 name ∷ es)
     unfolding tell size height
@@ -179,11 +182,13 @@ module _ (strings : Bytes) where
 
   -- ---- NOP
 
-  nop-suffix : {depth count : ℕ} {r : Bytes} {es : List Event} (tag : Bytes) → Word 4 tag → Suffix strings depth count r es → Suffix strings depth count (tag ++ r) es
+  nop-suffix : {depth count : ℕ} {r : Bytes} {es : List Event} (tag : Bytes) → Word 4 tag → Suffix strings depth count r es
+      → Suffix strings depth count (tag ++ r) es
   nop-suffix tag o (last {ns = ns} {end = end} n e) = rw (← append-assoc tag ns end) (last (nop-nodes o n) e)
   nop-suffix tag o (close {c = c} {end = end} {r = r} n m d k e x) = rw (← append-assoc tag c (end ++ r)) (close (nop-nodes o n) m d k e x)
 
-  nop-inner : {depth count : ℕ} {r : Bytes} {es : List Event} (tag : Bytes) → Word 4 tag → Inner strings depth count r es → Inner strings depth count (tag ++ r) es
+  nop-inner : {depth count : ℕ} {r : Bytes} {es : List Event} (tag : Bytes) → Word 4 tag → Inner strings depth count r es
+      → Inner strings depth count (tag ++ r) es
   nop-inner tag o x =
       record {
         a = tag ++ x .a;
@@ -209,7 +214,8 @@ module _ (strings : Bytes) where
 
   -- ---- what is left behind an END_NODE
 
-  outer-rest : (is : List ℕ) (count : ℕ) (bs : Bytes) (es : List Event) → 0 < count → Rest strings is count true bs es → Suffix strings (length is) count bs es
+  outer-rest : (is : List ℕ) (count : ℕ) (bs : Bytes) (es : List Event) → 0 < count → Rest strings is count true bs es
+      → Suffix strings (length is) count bs es
   outer-rest [] zero bs es h x = absurd (let z : ⊥ = omega arith in z)
   outer-rest [] (suc count) bs es h x = x
   outer-rest (i ∷ is) count bs es h x = x
@@ -272,20 +278,25 @@ module _ (b : Block) where
         let x = ih next is count true (omega arith) m (omega arith) o in
         rw (g .bytes)
         (either (b .strings) i is ended refl
-        (closes-rest (b .strings) (length is) count (g .tag) (drop next s) _ d m (g .word) (outer-rest (b .strings) is count (drop next s) _ (omega arith) x)))
+        (closes-rest (b .strings) (length is) count (g .tag) (drop next s) _ d m (g .word)
+        (outer-rest (b .strings) is count (drop next s) _ (omega arith) x)))
 
     prop-parses : (len name value next : ℕ) → Propped s at len name value next → TokenParses fuel at (Item (Prop len name value) next)
     unfolding unplaced
     prop-parses len name value next g [] count ended d m l h =
-        absurd (holding-passes (λ (v : Walk). judge b v (tokensFrom fuel s next)) (b .place + at) [] count ended (propertyReads (b .strings) name) h .inside refl)
+        absurd (holding-passes (λ (v : Walk). judge b v (tokensFrom fuel s next)) (b .place + at) [] count ended
+        (propertyReads (b .strings) name) h .inside refl)
     prop-parses len name value next g (i ∷ is) count true d m l h =
-        let o = holding-passes (λ (v : Walk). judge b v (tokensFrom fuel s next)) (b .place + at) (i ∷ is) count true (propertyReads (b .strings) name) h in
+        let o = holding-passes (λ (v : Walk). judge b v (tokensFrom fuel s next)) (b .place + at) (i ∷ is) count true
+        (propertyReads (b .strings) name) h in
         never true refl (o .first)
     prop-parses len name value next g (i ∷ is) count false d m l h =
-        let o = holding-passes (λ (v : Walk). judge b v (tokensFrom fuel s next)) (b .place + at) (i ∷ is) count false (propertyReads (b .strings) name) h in
+        let o = holding-passes (λ (v : Walk). judge b v (tokensFrom fuel s next)) (b .place + at) (i ∷ is) count false
+        (propertyReads (b .strings) name) h in
         let t = stands-found (b .strings) name (o .name) in
         rw (g .bytes)
-        (prop-rest (b .strings) (suc (length is)) count (g .tag) (g .size) (g .off) (g .pad) (drop next s) (stringAt (b .strings) name) (part s value len) name _
+        (prop-rest (b .strings) (suc (length is)) count (g .tag) (g .size) (g .off) (g .pad) (drop next s)
+        (stringAt (b .strings) name) (part s value len) name _
         (g .word) (g .sizes) (g .offset) (t .0) (g .pads) (t .1) (ih next (i ∷ is) count false d m l (o .on)))
 
     nop-parses : (next : ℕ) → Tagged s at next 4 → TokenParses fuel at (Item Nop next)
@@ -297,7 +308,8 @@ module _ (b : Block) where
     end-parses g [] zero ended d m l h = gives-refuses tt 6 (b .place + at) h
     end-parses g [] (suc count) ended d m l h = by-test (eqb (at + 4) (length s))
         (λ e. let q = eqb-true (at + 4) (length s) e in
-        let z : drop at s ≡ [] ++ g .tag = g .bytes ∙ ap (λ (x : Bytes). g .tag ++ x) (drop-of-length-le s {i = at + 4} (omega arith)) ∙ append-nil (g .tag) in
+        let z : drop at s ≡ [] ++ g .tag = g .bytes ∙ ap (λ (x : Bytes). g .tag ++ x) (drop-of-length-le s {i = at + 4} (omega arith))
+        ∙ append-nil (g .tag) in
         rw z (last no-nodes (g .word)))
         (λ e. gives-refuses tt 6 (b .place + at) (rw (ne-eqb (suc count) 0 (λ (z : suc count ≡ 0). omega arith), e) at h))
     end-parses g (i ∷ is) count ended d m l h = gives-refuses tt 6 (b .place + at) h

@@ -1,21 +1,18 @@
 -- Tokens where they stand: what the bytes at a place say of the token there, and what the token says of the bytes.
 use mathlib.Core.Path.{_≡_, refl, sym, ap, _∙_}
-use mathlib.Core.Bool.{Bool, true, false}
-use mathlib.Core.List.{List, [], _∷_, _++_, append-assoc}
-use Prim.Native.Nat.{ℕ, zero, suc, _+_, _-_, _*_, _≤_, _<_}
-use native.Mathlib.Nat.{add-zero, add-assoc}
+use mathlib.Core.Bool.{false}
+use mathlib.Core.List.{_∷_, _++_, append-assoc}
+use Prim.Native.Nat.{ℕ, suc, _+_, _≤_, _<_}
+use native.Mathlib.Nat.{add-zero}
 use native.Mathlib.Omega.{arith}
-use lib.Dec.{eqb, leb, ltb}
-use lib.ListN.{length, getD, take, drop, length-append, length-drop, List·getD-append}
+use lib.ListN.{length, take, drop, length-append, length-drop, List·getD-append}
 use lib.Seq.{drop-at, take-at, drop-drop, getD-drop}
-use borrow.Author.Tests.{eq-eqb, le-leb, ltb-false, lt-ltb}
+use borrow.Author.Tests.{le-leb, ltb-false, lt-ltb}
 use Rattle.rules.specs.Octets.{Bytes, byteAt, wordAt, padded, part, nulIn, hasNul}
 use Rattle.rules.specs.Names.{propertyNameReads}
 use Rattle.rules.specs.Tokens.{beginAt, propAt, tagged, tokenAt}
 use Rattle.rules.specs.Events.{nodeNameAt, stringAt, propertyReads}
-use Rattle.rules.specs.declared.Token.{Token}
-use Rattle.rules.specs.declared.Token.the-variants.{Item, End, Cut}
-use Rattle.rules.specs.declared.Kind.{Kind}
+use Rattle.rules.specs.declared.Token.the-variants.{Item, End}
 use Rattle.rules.specs.declared.Kind.the-variants.{Begin, EndNode, Prop, Nop}
 use Rattle.rules.specs.Laws.Octets.{nul-closed, nul-before}
 use Rattle.rules.specs.Laws.Trips.Grammar.{Word, Pads, Stands}
@@ -40,7 +37,12 @@ module _ (s : Bytes) (at : ℕ) where
   word-here w r v e o =
       let l = o .four in
       word-drop ∙ ap (λ (x : Bytes). wordAt x 0) e
-      ∙ rw (List·getD-append w r 0 0 (omega arith), List·getD-append w r 0 1 (omega arith), List·getD-append w r 0 2 (omega arith), List·getD-append w r 0 3 (omega arith))
+      ∙ rw (
+        List·getD-append w r 0 0 (omega arith),
+        List·getD-append w r 0 1 (omega arith),
+        List·getD-append w r 0 2 (omega arith),
+        List·getD-append w r 0 3 (omega arith),
+      )
       (o .reads)
 
   -- the token whose tag stands here
@@ -117,7 +119,16 @@ module _ (s : Bytes) (at : ℕ) (tag len off value pad r : Bytes) (offset : ℕ)
   prop-fits =
       let a = tag ++ (len ++ (off ++ (value ++ pad))) in
       let m : length a ≡ 12 + padded (length value) =
-      rw (length-append tag (len ++ (off ++ (value ++ pad))), length-append len (off ++ (value ++ pad)), length-append off (value ++ pad), length-append value pad, o .four, l .four, f .four, q .whole)
+      rw (
+        length-append tag (len ++ (off ++ (value ++ pad))),
+        length-append len (off ++ (value ++ pad)),
+        length-append off (value ++ pad),
+        length-append value pad,
+        o .four,
+        l .four,
+        f .four,
+        q .whole,
+      )
       (omega arith) in
       let g : drop at s ≡ a ++ r = e ∙ sym (simp append-assoc) in
       omega (arith, fits s at a r g (omega arith))
@@ -126,7 +137,12 @@ module _ (s : Bytes) (at : ℕ) (tag len off value pad r : Bytes) (offset : ℕ)
   unfolding tagged propAt
   prop-here =
       tag-here s at tag (len ++ (off ++ (value ++ (pad ++ r)))) 3 e o
-      ∙ rw (word-here s (at + 4) len (off ++ (value ++ (pad ++ r))) (length value) len-past l, word-here s (at + 4 + 4) off (value ++ (pad ++ r)) offset off-past f, le-leb (at + 4 + 8) (length s) (omega (arith, prop-fits)), le-leb (at + 4 + 8 + padded (length value)) (length s) prop-fits)
+      ∙ rw (
+        word-here s (at + 4) len (off ++ (value ++ (pad ++ r))) (length value) len-past l,
+        word-here s (at + 4 + 4) off (value ++ (pad ++ r)) offset off-past f,
+        le-leb (at + 4 + 8) (length s) (omega (arith, prop-fits)),
+        le-leb (at + 4 + 8 + padded (length value)) (length s) prop-fits,
+      )
 
   pub value-here : part s (at + 4 + 8) (length value) ≡ value
   value-here = ap (take (length value)) value-past ∙ take-at value (pad ++ r) (length value) refl
