@@ -5,7 +5,6 @@ pub mod Finish
 pub mod Trip
 pub mod Spelled
 pub mod Again
-pub mod Grammar
 pub mod Places
 pub mod Derived
 pub mod Found

@@ -16,7 +16,7 @@ use Rattle.rules.specs.Events.{Walk, atStart, go, nodeNameAt, opening, c
 use Rattle.rules.specs.Written.{hasSaid, unplaced}
 use Rattle.rules.specs.declared.Kind.the-variants.{Begin, EndNode, Prop, Nop}
 use Rattle.rules.specs.Laws.Events.{judgedAt, eventsAt, judged-all, events-all, judged-item, judged-end, events-item, events-end}
-use Rattle.rules.specs.Laws.Trips.Grammar.{Forest, empty, node, Word, Pads, Stands, Props, no-props, nop-props, prop, Nodes, no-nodes, nop-nodes, a-node, Structure, a-root, size, height, PropsNamed, Named, Limits, tellProps, tell}
+use Rattle.rules.specs.Grammar.{Forest, empty, node, Word, Pads, Stands, Props, no-props, nop-props, prop, Nodes, no-nodes, nop-nodes, a-node, Structure, a-root, size, height, PropsNamed, Named, Limits, tellProps, tell}
 use Rattle.rules.specs.Laws.Trips.Places.{fits, past, nop-here, close-here, end-here, begin-here, begin-past, begin-fits, name-here, prop-here, prop-past, prop-fits, value-here, string-here, reads-here}
 
 abbrev walk : List ℕ → ℕ → Bool → Walk

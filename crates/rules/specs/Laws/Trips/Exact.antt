@@ -7,7 +7,7 @@ use Rattle.rules.specs.Outcome.{passes}
 use Rattle.rules.specs.Blob.{Block}
 use Rattle.rules.specs.Events.{Property, Event, opens, has, closes, shapeJudged}
 use Rattle.rules.specs.Written.{hasSaid}
-use Rattle.rules.specs.Laws.Trips.Grammar.{Forest, empty, node, Structure, Limits, tellProps, tell}
+use Rattle.rules.specs.Grammar.{Forest, empty, node, Structure, Limits, tellProps, tell}
 use Rattle.rules.specs.Laws.Trips.Derived.{grammar-reads}
 use Rattle.rules.specs.Laws.Trips.Parsed.{reads-grammar}
 

@@ -20,7 +20,7 @@ use Rattle.rules.specs.declared.Kind.the-variants.{Begin, EndNode, Prop,
 use Rattle.rules.specs.Laws.Tests.{and-true}
 use Rattle.rules.specs.Laws.Octets.{length-part, word-part, nul-byte, nul-before, has-nul-not}
 use Rattle.rules.specs.Laws.Tokens.{if-by}
-use Rattle.rules.specs.Laws.Trips.Grammar.{Word, Pads, Stands}
+use Rattle.rules.specs.Grammar.{Word, Pads, Stands}
 
 -- ---- what a token says of its place
 

@@ -15,7 +15,7 @@ use Rattle.rules.specs.Events.{nodeNameAt, stringAt, propertyReads}
 use Rattle.rules.specs.declared.Token.the-variants.{Item, End}
 use Rattle.rules.specs.declared.Kind.the-variants.{Begin, EndNode, Prop, Nop}
 use Rattle.rules.specs.Laws.Octets.{nul-closed, nul-before}
-use Rattle.rules.specs.Laws.Trips.Grammar.{Word, Pads, Stands}
+use Rattle.rules.specs.Grammar.{Word, Pads, Stands}
 
 -- ---- bytes at a place
 
