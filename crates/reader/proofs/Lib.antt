@@ -2,3 +2,4 @@
 pub mod Heads
 pub mod Steps
 pub mod Walks
+pub mod Unique
