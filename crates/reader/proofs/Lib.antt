@@ -3,3 +3,4 @@ pub mod Heads
 pub mod Steps
 pub mod Walks
 pub mod Unique
+pub mod Rows
