@@ -2,8 +2,8 @@
 use rules::NODE_NAME_MAX_LEN;
 use rules::PROPERTY_NAME_MAX_LEN;
 ghost use mathlib.Core.Path.{_≡_};
-ghost use Rattle.rules.specs.Lists.{every};
 ghost use Rattle.rules.specs.Names.{nodeChar, propertyChar, atSign, nodeNameValid, propertyNameValid, nodeNameReads, propertyNameReads};
+ghost use Rattle.rules.specs.Lists.{every};
 
 // How a character is judged is said in the next two functions, and nowhere else.
 

@@ -33,6 +33,7 @@ fn byte_behind(s: &[u8], at: usize, k: usize) -> u8
     if inside(s.len(), at, k) { s[at + k] } else { 0 }
 }
 
+// A byte as a word. Its bound goes with it, so that no product of it can wrap.
 fn wide(x: u8) -> u32
     ensures { λ r. ⌜ (r ≡ x) × (r < 256) ⌝ }
 {
@@ -77,14 +78,14 @@ pub fn long(s: &[u8], at: usize) -> u64
 pub fn nul(s: &[u8], at: usize) -> usize
     ensures { λ r. ⌜ r ≡ nulIn (drop at (now (s .entry))) ⌝ }
 {
-    let mut i = at;
-    while i < s.len() {
-        if s[i] == 0 {
-            return i - at;
+    let mut end = at;
+    while end < s.len() {
+        if s[end] == 0 {
+            return end - at;
         }
-        i += 1;
+        end += 1;
     }
-    i - at
+    end - at
 }
 
 // The n bytes from a place on; those that there are, where there are fewer.
@@ -202,7 +203,7 @@ pub fn put_zeros(d: &mut [u8], at: usize, n: usize)
     }
 }
 
-// Lays a 32-bit number into d, the highest byte first, as `put_bytes` does.
+// Lays a 32-bit number into d, the highest byte first, as `put_bytes` does. All but the last few places take four stores.
 pub fn put_word(d: &mut [u8], at: usize, v: u32)
     ensures { λ _. ⌜ now (d .exit) ≡ lay (now (d .entry)) at (be32 v) ⌝ }
 {

@@ -21,5 +21,6 @@ pub mod Withheld
 pub mod Demands
 pub mod Everything
 pub mod Bench
+pub mod Readings
 -- what follows from them, proved: nothing in it needs to be believed
 pub mod Laws

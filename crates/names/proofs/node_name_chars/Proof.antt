@@ -1,12 +1,12 @@
 -- `node_name_chars` meets its contract. The invariant: the answer is that for what is left of s from i on.
-use mathlib.Core.Path.{_≡_, refl, sym, ap, _∙_}
+use mathlib.Core.Path.{_≡_, refl, sym, _∙_}
 use Prim.Native.Nat.{_-_, _≤_}
 use native.Mathlib.Omega.{arith}
 use lib.ListN.{length, drop}
 use denote.Ref.{now}
 use borrow.Author.Tests.{not-true, not-false}
-use Rattle.rules.specs.Lists.{every}
 use Rattle.rules.specs.Names.{nodeChar}
+use Rattle.rules.specs.Lists.{every}
 use Rattle.rules.specs.Laws.Names.{every-hit, every-miss, every-end}
 use borrow.Author.Needs.{needs}
 use Rattle.names.proofs.node_name_chars.Statement.{statement}

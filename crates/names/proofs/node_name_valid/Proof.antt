@@ -1,15 +1,15 @@
 -- `node_name_valid` meets its contract: at each return the tests that led there say which case of the rule holds.
-use mathlib.Core.Path.{_≡_, refl, sym, ap, _∙_}
+use mathlib.Core.Path.{_≡_, sym, ap, _∙_}
 use mathlib.Core.Bool.{true, false}
 use Prim.Native.Nat.{_+_}
 use native.Mathlib.Omega.{arith}
 use borrow.Author.Tests.{le-leb, lt-leb, not-true, not-false}
-use lib.ListN.{length, take, drop}
+use lib.ListN.{take}
 use lib.Seq.{length-take-le}
 use denote.Ref.{now}
 use Rattle.rules.specs.Ceilings.{nodeNameCeiling}
-use Rattle.rules.specs.Lists.{every}
 use Rattle.rules.specs.Names.{nodeChar}
+use Rattle.rules.specs.Lists.{every}
 use Rattle.rules.specs.Laws.Octets.{take-rest}
 use Rattle.rules.specs.Laws.Names.{node-empty, node-rule, at-le, every-end}
 use borrow.Author.Needs.{needs}

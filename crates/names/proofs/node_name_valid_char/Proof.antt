@@ -1,13 +1,12 @@
 -- `node_name_valid_char` meets its contract: in each range that its tests tell apart, the rule is computed.
-use mathlib.Core.Path.{_≡_, refl, sym, ap, _∙_}
+use mathlib.Core.Path.{_≡_, refl, sym}
 use mathlib.Core.Bool.{true, false, not}
 use Prim.Native.Nat.{ℕ, _+_, _≤_, _<_}
 use native.Mathlib.Omega.{arith}
-use Rattle.rules.specs.Lists.{oneOf}
 use Rattle.rules.specs.Names.{nodeChar}
+use Rattle.rules.specs.Lists.{oneOf}
 use Rattle.rules.specs.Laws.Tests.{by-le}
 use Rattle.rules.specs.Laws.Names.{steady, all-in, none-in}
-use borrow.Author.Needs.{needs}
 use Rattle.names.proofs.node_name_valid_char.Statement.{statement}
 use Rattle.names.proofs.node_name_valid_char.Tie as tie
 

@@ -1,9 +1,8 @@
 -- `holds` meets its contract. The invariant: the answer is that for what is left of s from i on.
 use mathlib.Core.Path.{_≡_, refl, sym, ap, _∙_}
-use mathlib.Core.Bool.{true, false, _||_}
-use Prim.Native.Nat.{_+_, _-_, _≤_}
+use Prim.Native.Nat.{_-_, _≤_}
 use native.Mathlib.Omega.{arith}
-use lib.ListN.{length, drop, drop-of-length-le}
+use lib.ListN.{length, drop}
 use denote.Ref.{now}
 use Rattle.rules.specs.Octets.{begins, holds}
 use Rattle.rules.specs.Laws.Octets.{holds-here, holds-more, holds-end, take-rest}

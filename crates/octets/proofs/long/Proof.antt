@@ -1,11 +1,11 @@
 -- `long` meets its contract: two words, of which the second reads 0 where it is past the end.
-use mathlib.Core.Path.{_≡_, sym, _∙_}
+use mathlib.Core.Path.{sym, _∙_}
 use Prim.Native.Nat.{_+_, _<_}
 use native.Mathlib.Omega.{arith}
 use lib.ListN.{length}
 use denote.Ref.{now}
 use borrow.Author.Tests.{ltb-true, ltb-false}
-use Rattle.rules.specs.Octets.{wordAt, longAt}
+use Rattle.rules.specs.Octets.{longAt}
 use Rattle.rules.specs.Laws.Octets.{word-past}
 use borrow.Author.Needs.{needs}
 use Rattle.octets.proofs.long.Statement.{statement}

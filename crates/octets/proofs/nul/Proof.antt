@@ -1,4 +1,4 @@
--- `nul` meets its contract. The invariant: the bytes passed, with those before the first NUL from i on, are those before the first
+-- `nul` meets its contract. The invariant: the bytes passed, with those before the first NUL from `end` on, are those before the first
 -- NUL from `at` on.
 use mathlib.Core.Path.{_≡_}
 use Prim.Native.Nat.{_+_, _-_, _≤_}
@@ -12,10 +12,10 @@ use Rattle.octets.proofs.nul.Statement.{statement}
 use Rattle.octets.proofs.nul.Tie as tie
 
 abbrev Inv-loop : tie.InvT-loop
-Inv-loop s at i₀ i = (at ≤ i) × (at + nulIn (drop at s) ≡ i + nulIn (drop i s))
+Inv-loop s at end₀ end = (at ≤ end) × (at + nulIn (drop at s) ≡ end + nulIn (drop end s))
 
 abbrev μ-loop : tie.MeasureT-loop
-μ-loop s at i₀ i = length s - i
+μ-loop s at end₀ end = length s - end
 
 loop-holds : tie.Need-loop-holds Inv-loop μ-loop
 loop-holds c = search needs
@@ -27,22 +27,22 @@ sub-result : tie.Need-sub-result Inv-loop μ-loop
 sub-result c = search needs
 
 returns : tie.Need-returns Inv-loop μ-loop
-returns c = omega (arith, nul-here (now (c .before .before .before .before .args .s)) (c .before .before .before .loop .i) (c .before .before .loop-test .taken) (c .if1 .taken))
+returns c = omega (arith, nul-here (now (c .before .before .before .before .args .s)) (c .before .before .before .loop .end) (c .before .before .loop-test .taken) (c .if1 .taken))
 
-add-i : tie.Need-add-i Inv-loop μ-loop
-add-i c = search needs
+add-end : tie.Need-add-end Inv-loop μ-loop
+add-end c = search needs
 
 loop-less : tie.Need-loop-less Inv-loop μ-loop
 loop-less c = search needs
 
 loop-again : tie.Need-loop-again Inv-loop μ-loop
-loop-again c = omega (arith, nul-more (now (c .before .before .before .before .args .s)) (c .before .before .before .loop .i) (c .before .before .loop-test .taken) (c .if1 .left))
+loop-again c = omega (arith, nul-more (now (c .before .before .before .before .args .s)) (c .before .before .before .loop .end) (c .before .before .loop-test .taken) (c .if1 .left))
 
 sub-result-2 : tie.Need-sub-result-2 Inv-loop μ-loop
 sub-result-2 c = search needs
 
 returns-2 : tie.Need-returns-2 Inv-loop μ-loop
-returns-2 c = omega (arith, nul-end (now (c .before .before .args .s)) (c .before .loop .i) (c .loop-test .left))
+returns-2 c = omega (arith, nul-end (now (c .before .before .args .s)) (c .before .loop .end) (c .loop-test .left))
 
 pub nul-spec : {M : Type 1} → statement M
-nul-spec = tie.close (tie.spec Inv-loop μ-loop loop-holds shared-slice-read-if1 sub-result returns add-i loop-less loop-again sub-result-2 returns-2)
+nul-spec = tie.close (tie.spec Inv-loop μ-loop loop-holds shared-slice-read-if1 sub-result returns add-end loop-less loop-again sub-result-2 returns-2)

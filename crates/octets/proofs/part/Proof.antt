@@ -2,7 +2,7 @@
 use mathlib.Core.Path.{_≡_, sym, ap, _∙_}
 use Prim.Native.Nat.{ℕ, _+_, _-_}
 use native.Mathlib.Omega.{arith}
-use lib.ListN.{length, take, drop, drop-of-length-le, length-drop}
+use lib.ListN.{take, drop, drop-of-length-le, length-drop}
 use lib.Seq.{take-nil, take-all}
 use denote.Ref.{now}
 use Rattle.rules.specs.Laws.Octets.{take-rest}

@@ -1,21 +1,20 @@
 -- The laws of the tests of names: a walk over a name, what the characters of a valid name are, and a rule for characters that
 -- is computed over a range of them.
-use mathlib.Core.Path.{_≡_, refl, sym, ap, _∙_}
+use mathlib.Core.Path.{_≡_, refl, sym, _∙_}
 use mathlib.Core.Logic.{_⊎_, inl, inr}
 use mathlib.Core.Bool.{Bool, true, false, not, _&&_, _||_}
-use mathlib.Core.List.{List, [], _∷_, _++_, List·Memᴰ, List·Memᴰ·head, List·Memᴰ·tail, List·Memᴰ·not-nil, List·Memᴰ·cases-cons}
+use mathlib.Core.List.{List, [], _∷_}
 use Prim.Native.Nat.{ℕ, zero, suc, _+_, _-_, _≤_, _<_}
 use native.Mathlib.Omega.{arith}
 use native.Mathlib.Numerals.{add-one}
-use native.Mathlib.Nat.{add-zero, add-suc}
 use lib.Dec.{eqb, leb, ltb}
-use lib.ListN.{length, take, drop, getD, drop-of-length-le, length-drop}
+use lib.ListN.{length, take, drop, drop-of-length-le, length-drop}
 use lib.Seq.{drop-cons, length-take-le, getD-take, getD-drop}
-use borrow.Author.Tests.{eq-eqb, ne-eqb, eqb-true, eqb-false, leb-true, ltb-true, le-leb, lt-leb, not-true}
+use borrow.Author.Tests.{eq-eqb, ne-eqb, eqb-true, eqb-false, leb-true, ltb-true, not-true}
 use Rattle.rules.specs.Ceilings.{nodeNameCeiling, propertyNameCeiling}
 use Rattle.rules.specs.Octets.{Bytes, byteAt, hasNul}
+use Rattle.rules.specs.Names.{within, nodeChar, propertyChar, atSign, nodeNameValid, propertyNameValid, nodeNameReads}
 use Rattle.rules.specs.Lists.{oneOf, every}
-use Rattle.rules.specs.Names.{within, nodeChar, propertyChar, atSign, beforeAt, afterAt, nodeNameValid, propertyNameValid, nodeNameReads}
 use Rattle.rules.specs.Laws.Octets.{has-nul-not}
 use Rattle.rules.specs.Laws.Tests.{by-test, by-le, never, and-true, or-cases, or-right, or-nothing}
 

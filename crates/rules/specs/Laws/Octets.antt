@@ -1,24 +1,51 @@
 -- The laws of byte strings: what is laid into a buffer, numbers and their bytes, padding, NUL, comparing.
 use mathlib.Core.Path.{_≡_, refl, sym, ap, ap₂, _∙_}
-use mathlib.Core.Logic.{_⊎_, inl, inr}
-use mathlib.Core.Bool.{Bool, true, false, _&&_, _||_}
+use mathlib.Core.Logic.{_≢_}
+use mathlib.Core.Bool.{true, false, _&&_, _||_}
 use mathlib.Core.List.{List, [], _∷_, _++_, append-assoc, append-nil, reverse, reverse-append, reverse-reverse}
 use Prim.Native.Nat.{ℕ, zero, suc, _+_, _-_, _*_, _/_, _%_, _≤_, _<_, min}
-use native.Mathlib.Nat.{add-zero, add-assoc}
+use native.Mathlib.Nat.{add-zero, zero-add, add-assoc, div-div-eq-div-mul, div-add-mod', mod-eq-of-lt}
 use native.Mathlib.Omega.{arith}
 use native.Mathlib.Numerals.{add-one, add-two, add-three}
-use lib.Dec.{eqb, ltb, leb}
-use lib.ListN.{length, take, drop, set, getD, replicate, take-append-drop, length-append, length-take, length-drop, length-set, length-replicate, getD-replicate, drop-of-length-le, List·getD-append, List·getD-eq-default, length-reverse}
-use lib.Seq.{length-take-le, take-length, take-all, take-at, drop-at, drop-drop, take-take, take-append-le, take-append-add, drop-append-add, getD-append-add, getD-append-seam, getD-take, getD-drop, getD-at, sets-eq, set-split, paste, paste-zero, paste-suc, drop-cons, take-suc, append-snoc, ext-getD}
+use lib.Dec.{eqb}
+use lib.ListN.{length, take, drop, set, getD, take-append-drop, length-append, length-take, length-drop, length-replicate, getD-replicate, drop-of-length-le, List·getD-append, List·getD-eq-default, length-reverse}
+use lib.Seq.{length-take-le, take-add, take-length, take-all, take-at, drop-at, drop-drop, take-take, take-append-le, take-append-add, drop-append-seam, take-append-seam, getD-append-add, getD-take, getD-drop, getD-set-same, getD-set-other, sets-eq, set-split, paste, paste-zero, paste-suc, drop-cons, append-snoc}
 use borrow.Author.Tests.{eq-eqb, ne-eqb, eqb-true, eqb-false, ltb-true}
-use Rattle.rules.specs.Octets.{Bytes, byteAt, wordAt, longAt, be32, be64, zeros, padded, filled, put, lay, nulIn, hasNul, same, begins, ends, holds}
-use Rattle.rules.specs.Laws.Tests.{by-test, by-le, never, both-ways, and-true, or-nothing, not-passed}
+use Rattle.rules.specs.Octets.{Bytes, byteAt, wordAt, longAt, be32, be64, words32, words64, zeros, padded, filled, part, put, lay, nulIn, hasNul, same, begins, ends, holds}
+use Rattle.rules.specs.Laws.Tests.{by-test, by-le, never, both-ways, and-true, not-passed}
 
 -- ---- parts
 
 -- `&s[at..]`, as a check states it
 pub take-rest {ℓ} : {A : Type ℓ} (at : ℕ) (s : List A) → take (length s - at) (drop at s) ≡ drop at s
 take-rest at s = take-all (length s - at) (drop at s) (omega (arith, length-drop at s))
+
+pub byte-part : (s : Bytes) (at n i : ℕ) → i < n → byteAt (part s at n) i ≡ byteAt s (at + i)
+byte-part s at n i h = getD-take n (drop at s) i 0 h ∙ getD-drop at s i 0
+
+pub length-part : (s : Bytes) (at n : ℕ) → at + n ≤ length s → length (part s at n) ≡ n
+length-part s at n h = length-take-le n (drop at s) (omega (arith, length-drop at s))
+
+-- what stands between two others
+pub part-between : (p bs q : Bytes) → part (p ++ (bs ++ q)) (length p) (length bs) ≡ bs
+part-between p bs q = ap (take (length bs)) (drop-append-seam p (bs ++ q)) ∙ take-append-seam bs q
+
+-- a loop over the first n of a list: the element at i, and what is left behind it
+pub drop-taken {ℓ} : {A : Type ℓ} (l : List A) (n i : ℕ) (z : A) → i < n → n ≤ length l → drop i (take n l) ≡ getD l i z ∷ drop (i + 1) (take n l)
+drop-taken l n i z h k =
+    rw (add-one, drop-cons (take n l) i z (omega (arith, length-take-le n l k)), getD-take n l i z h)
+
+pub drop-all {ℓ} : {A : Type ℓ} (l : List A) (n i : ℕ) → n ≤ i → drop i (take n l) ≡ []
+drop-all l n i h = drop-of-length-le (take n l) {i = i} (omega (arith, length-take n l))
+
+-- four bytes, one by one
+four-bytes : (s : Bytes) (at : ℕ) → at + 4 ≤ length s → part s at 4 ≡ byteAt s at ∷ byteAt s (at + 1) ∷ byteAt s (at + 2) ∷ byteAt s (at + 3) ∷ []
+four-bytes s at h =
+    rw (add-one at, add-two at, add-three at, drop-cons s at 0 (omega arith), drop-cons s (suc at) 0 (omega arith), drop-cons s (suc (suc at)) 0 (omega arith), drop-cons s (suc (suc (suc at))) 0 (omega arith))
+
+-- two parts that touch
+pub part-part : (s : Bytes) (at m n : ℕ) → part s at m ++ part s (at + m) n ≡ part s at (m + n)
+part-part s at m n = rw (← drop-drop m at s) (sym (take-add m n (drop at s)))
 
 -- ---- `put`: bytes laid into a buffer
 
@@ -34,6 +61,10 @@ module _ {ℓ} {A : Type ℓ} where
   pub put-nil : (d : List A) (at : ℕ) → put d at [] ≡ d
   unfolding put
   put-nil d at = rw (add-zero, take-append-drop)
+
+  put-front : (d xs : List A) → put d 0 xs ≡ xs ++ drop (length xs) d
+  unfolding put
+  put-front d xs = rw (zero-add (length xs))
 
   pub length-put : (d : List A) (at : ℕ) (bs : List A) → at + length bs ≤ length d → length (put d at bs) ≡ length d
   length-put d at bs h =
@@ -78,6 +109,11 @@ module _ {ℓ} {A : Type ℓ} where
       let e : n + (i - n) ≡ i = omega arith in
       rw (put-eq d at bs, ← e)
       (getD-after (take at d ++ bs) (drop n d) n (i - n) z (head-length d at bs h) ∙ getD-drop n d (i - n) z)
+
+  -- what was laid in stands there
+  pub part-put : (d : List A) (at : ℕ) (bs : List A) → at ≤ length d → take (length bs) (drop at (put d at bs)) ≡ bs
+  unfolding put
+  part-put d at bs h = rw (drop-at (take at d) _ at (length-take-le at d h)) (take-append-seam bs _)
 
   -- ---- `lay`: the same for any place, clipped to the buffer
 
@@ -126,6 +162,18 @@ module _ {ℓ} {A : Type ℓ} where
   lay-one d at x h =
       lay-put d at (x ∷ []) (omega arith) ∙ put-eq d at (x ∷ []) ∙ rw (add-one, append-snoc) (sym (set-split d at x h))
 
+  pub lay-one-same : (d : List A) (at : ℕ) (x z : A) → at < length d → getD (lay d at (x ∷ [])) at z ≡ x
+  lay-one-same d at x z h = rw (lay-one d at x h) (getD-set-same d at x z h)
+
+  pub lay-one-other : (d : List A) (at : ℕ) (x z : A) (i : ℕ) → i ≢ at → getD (lay d at (x ∷ [])) i z ≡ getD d i z
+  lay-one-other d at x z i ne = by-le (length d) at
+      (λ h. rw (lay-past d at (x ∷ []) h))
+      (λ h. rw (lay-one d at x h) (getD-set-other d at i x z ne))
+
+  -- from the front
+  pub lay-front : (d xs : List A) → length xs ≤ length d → lay d 0 xs ≡ xs ++ drop (length xs) d
+  lay-front d xs h = lay-put d 0 xs (omega arith) ∙ put-front d xs
+
   -- what does not fit any more makes no difference
   pub lay-more : (d : List A) (at : ℕ) (xs ys : List A) → length d ≤ at + length xs → lay d at xs ≡ lay d at (xs ++ ys)
   lay-more d at xs ys h =
@@ -144,6 +192,10 @@ module _ {ℓ} {A : Type ℓ} where
   lay-lay d at xs ys = by-le (at + length xs) (length d)
       (λ h. rw (lay-put d at xs h) (lay-on d at xs ys h))
       (λ h. lay-past (lay d at xs) (at + length xs) ys (omega (arith, length-lay d at xs)) ∙ lay-more d at xs ys (omega arith))
+
+  -- one call after the other, as code makes them: the second goes on where the first ended
+  pub lay-then : (d : List A) (at : ℕ) (xs ys : List A) {d₁ d₂ : List A} {next : ℕ} → d₁ ≡ lay d at xs → next ≡ at + length xs → d₂ ≡ lay d₁ next ys → d₂ ≡ lay d at (xs ++ ys)
+  lay-then d at xs ys p q r = r ∙ rw (p, q) (lay-lay d at xs ys)
 
 -- ---- loops that write: i elements are laid in
 
@@ -167,13 +219,6 @@ lay-zeros d at n = lay-paste d at (zeros n) ∙ rw (length-zeros n)
 
 -- ---- numbers and their bytes
 
--- past the end
-pub word-past : (s : Bytes) (at : ℕ) → length s ≤ at → wordAt s at ≡ 0
-unfolding wordAt
-word-past s at h =
-    let past : (i : ℕ) → length s ≤ i → byteAt s i ≡ 0 = λ i k. List·getD-eq-default s 0 k in
-    rw (past at h, past (at + 1) (omega arith), past (at + 2) (omega arith), past (at + 3) (omega arith))
-
 pub length-be32 : (v : ℕ) → length (be32 v) ≡ 4
 unfolding be32
 length-be32 v = refl
@@ -181,6 +226,111 @@ length-be32 v = refl
 pub length-be64 : (v : ℕ) → length (be64 v) ≡ 8
 unfolding be64
 length-be64 v = rw (length-append, length-be32 (v / 4294967296), length-be32 (v % 4294967296))
+
+pub length-words32 : (vs : List ℕ) → length (words32 vs) ≡ 4 * length vs
+unfolding words32
+length-words32 [] = refl
+length-words32 (v ∷ vs) = rw (length-append, length-be32 v, length-words32 vs) (omega arith)
+
+pub length-words64 : (vs : List ℕ) → length (words64 vs) ≡ 8 * length vs
+unfolding words64
+length-words64 [] = refl
+length-words64 (v ∷ vs) = rw (length-append, length-be64 v, length-words64 vs) (omega arith)
+
+-- bytes are below 256, as a slice of them tells
+abbrev pub Octets : Bytes → Type 0
+Octets s = (i : ℕ) → byteAt s i < 256
+
+pub word-small : (s : Bytes) (at : ℕ) → Octets s → wordAt s at < 4294967296
+unfolding wordAt
+word-small s at o = omega (arith, o at, o (at + 1), o (at + 2), o (at + 3))
+
+pub long-small : (s : Bytes) (at : ℕ) → Octets s → longAt s at < 18446744073709551616
+unfolding longAt
+long-small s at o = omega (arith, word-small s at o, word-small s (at + 4) o)
+
+-- a number in a part is the number in the whole
+pub word-part : (s : Bytes) (at n k : ℕ) → k + 4 ≤ n → wordAt (part s at n) k ≡ wordAt s (at + k)
+unfolding wordAt
+word-part s at n k h =
+    rw (byte-part s at n k (omega arith), byte-part s at n (k + 1) (omega arith), byte-part s at n (k + 2) (omega arith), byte-part s at n (k + 3) (omega arith), add-assoc at k 1, add-assoc at k 2, add-assoc at k 3)
+
+pub long-part : (s : Bytes) (at n k : ℕ) → k + 8 ≤ n → longAt (part s at n) k ≡ longAt s (at + k)
+unfolding longAt
+long-part s at n k h = rw (word-part s at n k (omega arith), word-part s at n (k + 4) (omega arith), add-assoc at k 4)
+
+-- the bytes of a number, read, are the number
+four-digits : (v p q r a b c : ℕ) → p * 256 + a ≡ v → q * 256 + b ≡ p → r * 256 + c ≡ q → r * 16777216 + c * 65536 + b * 256 + a ≡ v
+four-digits v p q r a b c e f g = omega arith
+
+top-digit : (v p q r a b c : ℕ) → p * 256 + a ≡ v → q * 256 + b ≡ p → r * 256 + c ≡ q → v < 4294967296 → r < 256
+top-digit v p q r a b c e f g h = omega arith
+
+be32-reads : (v : ℕ) → v < 4294967296 → wordAt (be32 v) 0 ≡ v
+unfolding wordAt be32
+be32-reads v h =
+    let e : v / 65536 ≡ v / 256 / 256 = sym (div-div-eq-div-mul v 256 256) in
+    let f : v / 16777216 ≡ v / 256 / 256 / 256 = sym (ap (λ (q : ℕ). q / 256) (div-div-eq-div-mul v 256 256) ∙ div-div-eq-div-mul v 65536 256) in
+    let a = div-add-mod' v 256 in
+    let b = div-add-mod' (v / 256) 256 in
+    let c = div-add-mod' (v / 256 / 256) 256 in
+    let top : v / 256 / 256 / 256 % 256 ≡ v / 256 / 256 / 256 = mod-eq-of-lt (top-digit v _ _ _ _ _ _ a b c h) in
+    rw (e, f, top) (four-digits v _ _ _ _ _ _ a b c)
+
+pub word-be32 : (s : Bytes) (at v : ℕ) → v < 4294967296 → part s at 4 ≡ be32 v → wordAt s at ≡ v
+word-be32 s at v h e = sym (rw add-zero at (word-part s at 4 0 (omega arith))) ∙ rw e (be32-reads v h)
+
+-- and a number read, as bytes, is what stands there
+be32-joined : (a b c e : ℕ) → a < 256 → b < 256 → c < 256 → e < 256 → be32 (a * 16777216 + b * 65536 + c * 256 + e) ≡ a ∷ b ∷ c ∷ e ∷ []
+unfolding be32
+be32-joined a b c e ha hb hc he =
+    let v : ℕ = a * 16777216 + b * 65536 + c * 256 + e in
+    let p : v / 16777216 % 256 ≡ a = omega arith in
+    let q : v / 65536 % 256 ≡ b = omega arith in
+    let r : v / 256 % 256 ≡ c = omega arith in
+    let t : v % 256 ≡ e = omega arith in
+    rw (p, q, r, t)
+
+pub be32-word : (s : Bytes) (at : ℕ) → Octets s → at + 4 ≤ length s → be32 (wordAt s at) ≡ part s at 4
+unfolding wordAt
+be32-word s at o h =
+    be32-joined (byteAt s at) (byteAt s (at + 1)) (byteAt s (at + 2)) (byteAt s (at + 3)) (o at) (o (at + 1)) (o (at + 2)) (o (at + 3))
+    ∙ sym (four-bytes s at h)
+
+-- the same of eight bytes
+first-word : (a b : ℕ) → part (be32 a ++ be32 b) 0 4 ≡ be32 a
+unfolding be32
+first-word a b = refl
+
+second-word : (a b : ℕ) → part (be32 a ++ be32 b) 4 4 ≡ be32 b
+unfolding be32
+second-word a b = refl
+
+be64-reads : (v : ℕ) → v < 18446744073709551616 → longAt (be64 v) 0 ≡ v
+unfolding longAt be64
+be64-reads v h =
+    let a : ℕ = v / 4294967296 in
+    let b : ℕ = v % 4294967296 in
+    rw (word-be32 (be32 a ++ be32 b) 0 a (omega arith) (first-word a b), word-be32 (be32 a ++ be32 b) 4 b (omega arith) (second-word a b))
+    (div-add-mod' v 4294967296)
+
+pub long-be64 : (s : Bytes) (at v : ℕ) → v < 18446744073709551616 → part s at 8 ≡ be64 v → longAt s at ≡ v
+long-be64 s at v h e = sym (rw add-zero at (long-part s at 8 0 (omega arith))) ∙ rw e (be64-reads v h)
+
+pub be64-long : (s : Bytes) (at : ℕ) → Octets s → at + 8 ≤ length s → be64 (longAt s at) ≡ part s at 8
+unfolding longAt be64
+be64-long s at o h =
+    let k = word-small s (at + 4) o in
+    let e : (wordAt s at * 4294967296 + wordAt s (at + 4)) / 4294967296 ≡ wordAt s at = omega arith in
+    let f : (wordAt s at * 4294967296 + wordAt s (at + 4)) % 4294967296 ≡ wordAt s (at + 4) = omega arith in
+    rw (e, f, be32-word s at o (omega arith), be32-word s (at + 4) o (omega arith)) (part-part s at 4 4)
+
+-- past the end
+pub word-past : (s : Bytes) (at : ℕ) → length s ≤ at → wordAt s at ≡ 0
+unfolding wordAt
+word-past s at h =
+    let past : (i : ℕ) → length s ≤ i → byteAt s i ≡ 0 = λ i k. List·getD-eq-default s 0 k in
+    rw (past at h, past (at + 1) (omega arith), past (at + 2) (omega arith), past (at + 3) (omega arith))
 
 -- four stores, as code makes them
 pub lay-four : (d : List ℕ) (at a b c e : ℕ) → at + 4 ≤ length d → set (set (set (set d at a) (at + 1) b) (at + 2) c) (at + 3) e ≡ lay d at (a ∷ b ∷ c ∷ e ∷ [])
@@ -196,6 +346,26 @@ pub lay-long-cut : (d : List ℕ) (at v : ℕ) → length d ≤ at + 4 → lay d
 unfolding be64
 lay-long-cut d at v h =
     lay-more d at (be32 (v / 4294967296)) (be32 (v % 4294967296)) (omega (arith, length-be32 (v / 4294967296)))
+
+-- ---- padding
+
+pub padded-mod : (n : ℕ) → padded n % 4 ≡ 0
+padded-mod n = omega arith
+
+pub padded-le : (n : ℕ) → n ≤ padded n
+padded-le n = omega arith
+
+pub padded-lt : (n : ℕ) → padded n < n + 4
+padded-lt n = omega arith
+
+pub length-filled : (bs : Bytes) → length (filled bs) ≡ padded (length bs)
+unfolding filled
+length-filled bs = rw (length-append, length-zeros) (omega (arith, padded-le (length bs)))
+
+-- what is padded begins with what it pads
+pub take-filled : (bs : Bytes) → take (length bs) (filled bs) ≡ bs
+unfolding filled
+take-filled bs = take-append-seam bs _
 
 -- ---- NUL
 
@@ -213,11 +383,11 @@ pub nul-end : (s : Bytes) (i : ℕ) → length s ≤ i → nulIn (drop i s) ≡ 
 unfolding nulIn
 nul-end s i h = rw drop-of-length-le
 
-nul-cons : (b : ℕ) (s : Bytes) → (b ≡ 0 → ⊥) → nulIn (b ∷ s) ≡ suc (nulIn s)
+pub nul-cons : (b : ℕ) (s : Bytes) → (b ≡ 0 → ⊥) → nulIn (b ∷ s) ≡ suc (nulIn s)
 unfolding nulIn
 nul-cons b s h = rw (ne-eqb b 0 h, nulIn)
 
-nul-first : (s : Bytes) → nulIn (0 ∷ s) ≡ 0
+pub nul-first : (s : Bytes) → nulIn (0 ∷ s) ≡ 0
 unfolding nulIn
 nul-first s = refl
 
@@ -243,6 +413,12 @@ nul-before (b ∷ s) zero h e = let q : nulIn (b ∷ s) ≡ 0 = rw e (nul-first 
 nul-before (b ∷ s) (suc i) h e = by-test (eqb b 0)
     (λ t. let q : nulIn (b ∷ s) ≡ 0 = rw (eqb-true b 0 t) (nul-first s) in omega arith)
     (λ t. nul-before s i (omega (arith, nul-cons b s (eqb-false b 0 t))) e)
+
+-- a name closed by NUL, whatever stands behind it
+pub nul-closed : (name rest : Bytes) → ((i : ℕ) → i < length name → byteAt name i ≡ 0 → ⊥) → nulIn (name ++ 0 ∷ rest) ≡ length name
+nul-closed [] rest h = nul-first rest
+nul-closed (b ∷ name) rest h =
+    nul-cons b (name ++ 0 ∷ rest) (h 0 (omega arith)) ∙ ap suc (nul-closed name rest (λ i k. h (suc i) (omega arith)))
 
 pub has-nul-not : (s : Bytes) → ((i : ℕ) → i < length s → byteAt s i ≡ 0 → ⊥) → hasNul s ≡ false
 has-nul-not s h = not-passed (hasNul s) (λ t. let k = ltb-true (nulIn s) (length s) t in h (nulIn s) k (nul-byte s k))

@@ -1,7 +1,7 @@
 -- Tests and what they say: from a Bool to the fact, and back.
 use mathlib.Core.Path.{_≡_, refl, sym}
 use mathlib.Core.Logic.{_⊎_, inl, inr}
-use mathlib.Core.Bool.{Bool, true, false, not, _&&_, _||_}
+use mathlib.Core.Bool.{Bool, true, false, _&&_, _||_}
 use Prim.Native.Nat.{ℕ, _≤_, _<_}
 use lib.Dec.{leb, ltb}
 use native.Mathlib.Omega.{arith}
@@ -29,6 +29,9 @@ both-ways false false f g = refl
 
 pub ltb-cong : (a b c e : ℕ) → (a < b → c < e) → (c < e → a < b) → ltb a b ≡ ltb c e
 ltb-cong a b c e f g = both-ways (ltb a b) (ltb c e) (λ h. lt-ltb c e (f (ltb-true a b h))) (λ h. lt-ltb a b (g (ltb-true c e h)))
+
+pub ltb-leb : (a b c e : ℕ) → (a < b → c ≤ e) → (c ≤ e → a < b) → ltb a b ≡ leb c e
+ltb-leb a b c e f g = both-ways (ltb a b) (leb c e) (λ h. le-leb c e (f (ltb-true a b h))) (λ h. lt-ltb a b (g (leb-true c e h)))
 
 pub and-true : (a b : Bool) → (a && b) ≡ true → (a ≡ true) × (b ≡ true)
 and-true true b h = (refl, h)

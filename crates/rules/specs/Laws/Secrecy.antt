@@ -1,0 +1,7 @@
+-- Demand 3: nothing leaks.
+pub mod Alike
+pub mod Tokens
+pub mod Answers
+pub mod Blob
+pub mod Leaks
+pub mod Edition
