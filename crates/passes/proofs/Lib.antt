@@ -2,3 +2,5 @@
 pub mod Turns
 pub mod Watched
 pub mod Phandles
+pub mod Doubles
+pub mod Twins

@@ -2,3 +2,5 @@
 pub mod Passes
 pub mod Cells
 pub mod Rows
+pub mod Props
+pub mod Siblings
