@@ -1,0 +1,2 @@
+-- What the code of this crate promises, where rules does not say it.
+pub mod Rows

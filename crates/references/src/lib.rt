@@ -1,0 +1,2 @@
+// References between nodes: which properties hold them, how many words follow each, and which node a phandle names.
+pub mod rows;
