@@ -1,2 +1,3 @@
 -- What the code of this crate promises, where rules does not say it.
 pub mod Rows
+pub mod Table

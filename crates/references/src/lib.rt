@@ -1,2 +1,3 @@
 // References between nodes: which properties hold them, how many words follow each, and which node a phandle names.
 pub mod rows;
+pub mod table;

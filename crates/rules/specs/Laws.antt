@@ -23,3 +23,4 @@ pub mod Copy
 pub mod Nested
 pub mod Sieve
 pub mod Guest
+pub mod Tabled
