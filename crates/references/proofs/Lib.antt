@@ -1,3 +1,4 @@
 -- The laws that the proofs of this crate cite.
 pub mod Names
 pub mod Tables
+pub mod Counts

@@ -49,7 +49,7 @@ nodeIn b ws i = record {
   place = cell ws i 0;
   parent = cell ws i 1;
   name = stringAt (b .structure) (beginOf (b .place) ws i + 4);
-  props = propsAt b (beginOf (b .place) ws i)
+  props = propsAt b (beginOf (b .place) ws i);
 }
 
 -- the first `count` rows
