@@ -2,3 +2,4 @@
 pub mod Names
 pub mod Tables
 pub mod Counts
+pub mod Scans

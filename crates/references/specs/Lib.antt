@@ -2,3 +2,4 @@
 pub mod Rows
 pub mod Table
 pub mod Cells
+pub mod Scan
