@@ -20,8 +20,8 @@ pub enum Turn {
     Done,
 }
 
-// The name at an offset of the strings block, up to its NUL.
-fn string_at(strings: &[u8], offset: usize) -> &[u8]
+// The name at an offset of a block, up to its NUL; past the end it is empty.
+pub fn string_at(strings: &[u8], offset: usize) -> &[u8]
     ensures { λ r. ⌜ now r ≡ stringAt (now (strings .entry)) offset ⌝ }
 {
     octets::part(strings, offset, octets::nul(strings, offset))
