@@ -3,3 +3,4 @@
 // stands in the blob, and `count` the number of rows.
 pub mod lookup;
 pub mod nodes;
+pub mod order;
