@@ -3,3 +3,4 @@ pub mod Climbs
 pub mod Endings
 pub mod Names
 pub mod Ways
+pub mod Spellings

@@ -4,3 +4,4 @@
 pub mod lookup;
 pub mod nodes;
 pub mod order;
+pub mod spelling;
