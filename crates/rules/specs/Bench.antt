@@ -4,23 +4,22 @@ use mathlib.Core.Path.{_≡_, refl}
 use mathlib.Core.Bool.{Bool, true, false}
 use mathlib.Core.List.{List, [], _∷_, _++_, map}
 use mathlib.Core.Option.{Option, none, some}
-use Prim.Native.Nat.{ℕ, _+_, _-_, _^_}
+use Prim.Native.Nat.{ℕ, _-_, _^_}
 use Prim.Native.String.{String}
 use lib.ListN.{length, replicate}
 use Rattle.rules.specs.Everything.{everything}
 use Rattle.rules.specs.Octets.{Bytes, wordAt, words32, zeros, ascii, closed, same}
-use Rattle.rules.specs.Outcome.{Outcome, gives, refuses, Verdict}
+use Rattle.rules.specs.Outcome.{Outcome, gives, refuses}
 use Rattle.rules.specs.Names.{nodeNameValid, propertyNameValid}
 use Rattle.rules.specs.Reservations.{Entry, made}
 use Rattle.rules.specs.Writer.{start}
 use Rattle.rules.specs.Written.{Call, begin, bytes, end, written, hasSaid, blobOf}
-use Rattle.rules.specs.Events.{Event, opens, has, closes}
-use Rattle.rules.specs.Tree.{Tree}
+use Rattle.rules.specs.Events.{Event, opens, closes}
 use Rattle.rules.specs.Reader.{treeRead}
 use Rattle.rules.specs.References.{edition1, isReference, cellsIn, cellRows, lookup, cellCount, scan, target}
 use Rattle.rules.specs.Listing.{pathsBytes}
-use Rattle.rules.specs.Derivation.{Request, Derived, derive, listOf, guestOf}
-use Rattle.rules.specs.Program.{Printed, program}
+use Rattle.rules.specs.Derivation.{Request, listOf}
+use Rattle.rules.specs.Program.{program}
 
 -- a case: what the definitions give, and what the paper says
 pub record Case : Type 0 where

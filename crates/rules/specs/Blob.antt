@@ -7,7 +7,7 @@ use lib.Dec.{eqb, ltb}
 use lib.ListN.{length}
 use Rattle.rules.specs.Ceilings.{blobCeiling}
 use Rattle.rules.specs.Octets.{Bytes, wordAt, longAt, part}
-use Rattle.rules.specs.Outcome.{Verdict, Test, first}
+use Rattle.rules.specs.Outcome.{Verdict, first}
 use Rattle.rules.specs.Reservations.{Entry}
 
 pub record Header : Type 0 where

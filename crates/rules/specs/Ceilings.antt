@@ -1,6 +1,6 @@
 -- 01, "Ceilings": every number of that section, once. A number is shut: what needs its value says `unfolding`, so that a later
 -- change of a number is a change here and in src/lib.rt.
-use Prim.Native.Nat.{ℕ, _*_}
+use Prim.Native.Nat.{ℕ}
 
 -- "Blob 1,048,576 bytes."
 unfoldable pub blobCeiling : ℕ

@@ -2,27 +2,27 @@
 -- theorem proves each. Code meets them through its contracts, which are equations with these definitions.
 use mathlib.Core.Path.{_≡_}
 use mathlib.Core.Logic.{_↔_}
-use mathlib.Core.Bool.{Bool, true, false}
+use mathlib.Core.Bool.{true, false}
 use mathlib.Core.List.{List, [], _∷_, map}
-use mathlib.Core.Option.{Option, some}
-use Prim.Native.Nat.{ℕ, suc, _^_, _≤_, _<_}
+use mathlib.Core.Option.{some}
+use Prim.Native.Nat.{ℕ, _^_, _≤_, _<_}
 use Prim.Native.String.{String}
 use lib.ListN.{length, getD, take, drop}
 use Rattle.rules.specs.Ceilings.{blobCeiling, workWords, reservationCeiling}
 use Rattle.rules.specs.Octets.{Bytes, AreBytes, zeros, ascii}
-use Rattle.rules.specs.Outcome.{Outcome, gives, refuses, passes}
+use Rattle.rules.specs.Outcome.{gives, refuses, passes}
 use Rattle.rules.specs.Reservations.{Entry, anyInvalid, overlapping}
 use Rattle.rules.specs.Writer.{room}
-use Rattle.rules.specs.Written.{Blocks, writeEvents, blobOf, Call, bootCpu, written, said, bootSaid, spelled, unplaced}
+use Rattle.rules.specs.Written.{writeEvents, blobOf, Call, bootCpu, written, said, bootSaid, spelled, unplaced}
 use Rattle.rules.specs.Blob.{headerIn, entriesIn}
-use Rattle.rules.specs.Events.{Property, Event, opens, has, closes, eventsJudged}
-use Rattle.rules.specs.Tree.{Node, Tree, node, path, frame, numbers, nodesOf, doubledJudged, wordsJudged, sharedJudged, readName}
+use Rattle.rules.specs.Events.{Property, Event, eventsJudged}
+use Rattle.rules.specs.Tree.{Node, node, path, frame, numbers, nodesOf, doubledJudged, wordsJudged, sharedJudged, readName}
 use Rattle.rules.specs.Reader.{eventsRead, treeRead, blobJudged, read, readWork}
 use Rattle.rules.specs.References.{Rules}
-use Rattle.rules.specs.Listing.{_∈_, Reached, Spared, Listed}
+use Rattle.rules.specs.Listing.{_∈_, Listed}
 use Rattle.rules.specs.Lists.{keep}
-use Rattle.rules.specs.Copy.{Asked, copied, guestEvents}
-use Rattle.rules.specs.Derivation.{Request, Derived, asked, requestJudged, listsJudged, configuredJudged, idsFrom, listedPaths, listOf, guestOf, derive, deriveList, deriveGuest, deriveWork}
+use Rattle.rules.specs.Copy.{copied, guestEvents}
+use Rattle.rules.specs.Derivation.{Request, asked, requestJudged, listsJudged, configuredJudged, listedPaths, guestOf, derive, deriveList, deriveGuest, deriveWork}
 use Rattle.rules.specs.Withheld.{Agree}
 
 -- ---- 1. Always an answer. That every entry point returns is what the checker shows of each function. Of a refusal:
@@ -86,14 +86,14 @@ ReadThenWrite =
     × ReadsAs again rs (headerIn blob .bootCpu) (eventsRead blob)
 
 -- an accepted host, and a request that passes 41 to 44
-pub record Granted (r : Rules) (host : Bytes) (q : Request) : Type 0 where
+pub record Granted (host : Bytes) (q : Request) : Type 0 where
   pub read : blobJudged host ≡ passes
   pub request : requestJudged (treeRead host) q ≡ passes
 
 -- "a path is listed exactly if 01's rule says so"
 abbrev pub ListedExactly : Type 0
 ListedExactly =
-    (r : Rules) (host : Bytes) (q : Request) → Granted r host q → (p : Bytes)
+    (r : Rules) (host : Bytes) (q : Request) → Granted host q → (p : Bytes)
     → (p ∈ listedPaths r (treeRead host) q)
     ↔ ((x : ℕ)
     × (path (treeRead host) x ≡ p)
@@ -102,7 +102,7 @@ ListedExactly =
 -- and once
 abbrev pub ListedOnce : Type 0
 ListedOnce =
-    (r : Rules) (host : Bytes) (q : Request) → Granted r host q → (i j : ℕ) → i < j → j < length (listedPaths r (treeRead host) q)
+    (r : Rules) (host : Bytes) (q : Request) → Granted host q → (i j : ℕ) → i < j → j < length (listedPaths r (treeRead host) q)
     → getD (listedPaths r (treeRead host) q) i [] ≡ getD (listedPaths r (treeRead host) q) j [] → ⊥
 
 -- a node as it is copied: its name, and the names and values of its properties
@@ -116,7 +116,7 @@ plain n = record { name = n .name; props = map (λ (p : Property). (p .name, p .
 -- "the guest tree is 01's filtered copy": read, it has the copied nodes' names, properties, values and order
 abbrev pub GuestIsCopy : Type 0
 GuestIsCopy =
-    (r : Rules) (host : Bytes) (q : Request) → Granted r host q
+    (r : Rules) (host : Bytes) (q : Request) → Granted host q
     → length (guestOf r host q) ≤ blobCeiling
     → ReadsAs (guestOf r host q) [] 0 (guestEvents r (asked (frame (treeRead host)) q) (treeRead host) (eventsRead host))
     × (map plain (treeRead (guestOf r host q))
@@ -127,7 +127,7 @@ GuestIsCopy =
 -- order, and finished"
 abbrev pub GuestIsWritten : Type 0
 GuestIsWritten =
-    (r : Rules) (host : Bytes) (q : Request) (lent strings : Bytes) → Granted r host q
+    (r : Rules) (host : Bytes) (q : Request) (lent strings : Bytes) → Granted host q
     → length (guestOf r host q) ≤ room (length lent)
     → length (guestOf r host q) ≤ room (length strings)
     → written [] lent strings [] (spelled 0 (guestEvents r (asked (frame (treeRead host)) q) (treeRead host) (eventsRead host)))

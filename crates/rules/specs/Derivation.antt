@@ -1,17 +1,17 @@
 -- 01, "The filtered copy": the derivation, its refusals 40 to 46 in their order with their places, both outputs, and the work space
 -- at return.
 use mathlib.Core.Bool.{Bool, true, false, not, _&&_, _||_}
-use mathlib.Core.List.{List, [], _∷_, _++_, map}
+use mathlib.Core.List.{List, [], _∷_, map}
 use mathlib.Core.Option.{Option, none, some}
 use Prim.Native.Nat.{ℕ, zero, suc, _+_, min}
-use lib.Dec.{eqb, leb, ltb}
+use lib.Dec.{leb, ltb}
 use lib.ListN.{length, take, drop}
 use Rattle.rules.specs.Ceilings.{blobCeiling, entryCeiling, pathCeiling, workWords}
 use Rattle.rules.specs.Octets.{Bytes, if_then_else_, put, nulIn, ascii, same, begins}
-use Rattle.rules.specs.Lists.{oneOf, any}
-use Rattle.rules.specs.Outcome.{Outcome, gives, refuses, Verdict, passes, settled, _then_, Test, first}
+use Rattle.rules.specs.Lists.{any}
+use Rattle.rules.specs.Outcome.{Outcome, gives, Verdict, passes, settled, _then_, first}
 use Rattle.rules.specs.Blob.{missing}
-use Rattle.rules.specs.Tree.{Node, Tree, node, Frame, frame, numbers, path}
+use Rattle.rules.specs.Tree.{Tree, node, Frame, frame, numbers, path}
 use Rattle.rules.specs.Reader.{eventsRead, treeRead, blobJudged, spaceJudged, spaceOf}
 use Rattle.rules.specs.References.{Rules}
 use Rattle.rules.specs.Listing.{listed, pathsBytes}

@@ -1,20 +1,18 @@
 -- 01, "The blob, as read": the shape of a structure, refusals 6 to 9 "judged token by token, in that order at one token", and
 -- the events that the tokens say.
-use mathlib.Core.Bool.{Bool, true, false, not, _&&_, _||_}
+use mathlib.Core.Bool.{Bool, true, false, not, _&&_}
 use mathlib.Core.List.{List, [], _∷_}
-use mathlib.Core.Option.{Option, none, some}
-use Prim.Native.Nat.{ℕ, zero, suc, _+_}
+use Prim.Native.Nat.{ℕ, suc, _+_}
 use lib.Dec.{eqb, leb}
 use lib.ListN.{length, take, drop}
 use Rattle.rules.specs.Ceilings.{nodeCeiling, openCeiling}
 use Rattle.rules.specs.Octets.{Bytes, if_then_else_, part, nulIn, hasNul}
-use Rattle.rules.specs.Outcome.{Verdict, gives, refuses, passes}
+use Rattle.rules.specs.Outcome.{Verdict, refuses, passes}
 use Rattle.rules.specs.Names.{nodeNameReads, propertyNameReads}
 use Rattle.rules.specs.Blob.{Block}
 use Rattle.rules.specs.Tokens.{Placed, tokens}
 use Rattle.rules.specs.declared.Token.{Token}
 use Rattle.rules.specs.declared.Token.the-variants.{Item, End, Cut}
-use Rattle.rules.specs.declared.Kind.{Kind}
 use Rattle.rules.specs.declared.Kind.the-variants.{Begin, EndNode, Prop, Nop}
 
 -- ---- names

@@ -6,6 +6,7 @@ pub mod Order
 pub mod Verdicts
 pub mod Names
 pub mod Reservations
+pub mod Writer
 pub mod Blob
 pub mod Tokens
 pub mod Events
@@ -15,6 +16,7 @@ pub mod Paths
 pub mod Work
 pub mod Listing
 pub mod Shape
+pub mod Passes
 pub mod Formed
 pub mod Listed
 pub mod Secrecy
@@ -23,4 +25,14 @@ pub mod Copy
 pub mod Nested
 pub mod Sieve
 pub mod Guest
+pub mod Moved
+pub mod Encoded
+pub mod Header
+pub mod ReadBack
+pub mod BlobBack
+pub mod GuestCopy
+pub mod Trips
+pub mod Places
+pub mod Table
 pub mod Tabled
+pub mod TabledRead

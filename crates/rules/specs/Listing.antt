@@ -1,12 +1,12 @@
 -- 01, "References and the list": what is reached, and in which order it is listed. `find_all_passthrough_devices` of the source.
 use mathlib.Core.Path.{_≡_}
 use mathlib.Core.Bool.{Bool, true, false, not, _&&_, _||_}
-use mathlib.Core.List.{List, [], _∷_, _++_, map, reverse, List·Memᴰ}
+use mathlib.Core.List.{List, [], _∷_, _++_, reverse, List·Memᴰ}
 use Prim.Native.Nat.{ℕ, zero, suc, _<_}
 use lib.Dec.{eqb}
 use lib.ListN.{length}
 use Rattle.rules.specs.Octets.{Bytes, closed}
-use Rattle.rules.specs.Lists.{oneOf, any, keep, sort, fresh}
+use Rattle.rules.specs.Lists.{any, keep, sort, fresh}
 use Rattle.rules.specs.Tree.{Tree, Frame, frame, numbers, below}
 use Rattle.rules.specs.References.{Rules, targets}
 

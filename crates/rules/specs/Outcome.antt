@@ -1,5 +1,5 @@
 -- What a call answers: something, or a refusal with its number and place.
-use mathlib.Core.Bool.{Bool, true, false}
+use mathlib.Core.Bool.{Bool}
 use mathlib.Core.List.{List, [], _∷_}
 use Prim.Native.Nat.{ℕ}
 use Rattle.rules.specs.Octets.{if_then_else_}

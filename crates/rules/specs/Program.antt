@@ -1,16 +1,16 @@
 -- 01, "Ceilings" and "Trees on the bench": the command program. Its request text becomes lists, or a refusal 41; its answer is
 -- printed, and the guest written.
-use mathlib.Core.Bool.{Bool, true, false, not, _&&_, _||_}
-use mathlib.Core.List.{List, [], _∷_, _++_, map}
+use mathlib.Core.Bool.{Bool, true, false, not, _&&_}
+use mathlib.Core.List.{List, [], _∷_, _++_}
 use mathlib.Core.Option.{Option, none, some}
 use Prim.Native.Nat.{ℕ, zero, suc, _+_, _-_, _*_, _/_, _%_, _^_}
-use lib.Dec.{eqb, leb, ltb}
+use lib.Dec.{eqb, ltb}
 use lib.ListN.{length, take, drop}
 use Rattle.rules.specs.Ceilings.{programCeiling, workWords}
 use Rattle.rules.specs.Octets.{Bytes, if_then_else_, hasNul, closed, ascii, begins}
 use Rattle.rules.specs.Lists.{every}
 use Rattle.rules.specs.Names.{within}
-use Rattle.rules.specs.Outcome.{Outcome, gives, refuses, Verdict, passes, _then_, Test, first}
+use Rattle.rules.specs.Outcome.{Outcome, gives, refuses, Verdict, passes, _then_, first}
 use Rattle.rules.specs.Reader.{treeRead}
 use Rattle.rules.specs.References.{Rules}
 use Rattle.rules.specs.Derivation.{Request, Derived, derive, listedPaths, guestOf}

@@ -1,13 +1,12 @@
 -- 01, "The blob, as read": what the reader answers, and what it leaves in its work space.
-use mathlib.Core.Bool.{Bool, true, false}
 use mathlib.Core.List.{List, [], _∷_, _++_}
-use mathlib.Core.Option.{Option, none, some}
+use mathlib.Core.Option.{none, some}
 use Prim.Native.Nat.{ℕ, _-_}
 use lib.Dec.{ltb}
 use lib.ListN.{length}
 use Rattle.rules.specs.Ceilings.{workWords}
 use Rattle.rules.specs.Octets.{Bytes, if_then_else_, zeros, put}
-use Rattle.rules.specs.Outcome.{Outcome, Verdict, gives, refuses, _then_, Test, first}
+use Rattle.rules.specs.Outcome.{Outcome, Verdict, gives, refuses, _then_, first}
 use Rattle.rules.specs.Blob.{headerJudged, blockIn}
 use Rattle.rules.specs.Events.{Event, shapeJudged, eventsIn}
 use Rattle.rules.specs.Tree.{Node, Tree, nodesOf, doubledJudged, wordsJudged, sharedJudged, phandleOf}

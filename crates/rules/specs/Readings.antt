@@ -1,27 +1,25 @@
 -- How 01 is read where it leaves room, and both sides of its limits: cases of each section in one table, by computation. The
 -- readings are told in docs/DECISIONS.md.
 use mathlib.Core.Path.{_≡_, refl}
-use mathlib.Core.Bool.{Bool, true, false}
+use mathlib.Core.Bool.{true, false}
 use mathlib.Core.List.{List, [], _∷_, _++_, map}
-use mathlib.Core.Option.{Option, none, some}
-use Prim.Native.Nat.{ℕ, zero, suc, _+_, _-_, _^_}
+use Prim.Native.Nat.{ℕ, zero, suc, _+_, _-_}
 use Prim.Native.String.{String}
 use lib.ListN.{length, replicate}
 use Rattle.rules.specs.Everything.{everything}
 use Rattle.rules.specs.Octets.{Bytes, if_then_else_, be32, be64, words32, zeros, put, ascii, closed}
 use Rattle.rules.specs.Outcome.{Outcome, gives, refuses, Verdict}
-use Rattle.rules.specs.Names.{nodeNameValid, propertyNameValid}
 use Rattle.rules.specs.Reservations.{Entry, overlapping}
-use Rattle.rules.specs.Writer.{State, Answer, beginBytes, endBytes, propertyBytes, headerBytes, nameOffset, start, beginNode, endNode, property, phandle, finish}
-use Rattle.rules.specs.Written.{Call, begin, end, bytes, null, string, stringList, number32, array32, phandleCall, written, hasSaid, blobOf}
-use Rattle.rules.specs.Events.{Property, Event, opens, has, closes, Step, stop, done, go, opening}
+use Rattle.rules.specs.Writer.{State, beginBytes, endBytes, propertyBytes, headerBytes, nameOffset, start, beginNode, phandle, finish}
+use Rattle.rules.specs.Written.{Call, begin, end, bytes, null, string, stringList, phandleCall, written, blobOf}
+use Rattle.rules.specs.Events.{Property, Event, has, closes, Step, stop, done, go, opening}
 use Rattle.rules.specs.Tree.{Node, Tree, nodesOf}
 use Rattle.rules.specs.Tree
 use Rattle.rules.specs.Reader.{read, treeRead, rowsOf}
 use Rattle.rules.specs.References.{edition1}
 use Rattle.rules.specs.Derivation.{Request, Derived, requestJudged, derive, listOf, guestOf}
 use Rattle.rules.specs.Listing.{pathsBytes}
-use Rattle.rules.specs.Program.{Printed, program}
+use Rattle.rules.specs.Program.{program}
 use Rattle.rules.specs.Copy.{Asked}
 use Rattle.rules.specs.Withheld.{hidden, withheld}
 use Rattle.rules.specs.Bench.{Case, holdAll, bit, numberOf, node, cells, line, eventsT, hostT}

@@ -2,14 +2,14 @@
 -- source: `is_phandle_property`, `get_cells_count_for_property`, `parse_phandle_property_with_cells`.
 use mathlib.Core.Bool.{Bool, true, false, not, _&&_, _||_}
 use mathlib.Core.List.{List, [], _∷_, _++_, map}
-use mathlib.Core.Option.{Option, none, some, Option·map, Option·getD}
+use mathlib.Core.Option.{Option, none, some, Option·map}
 use Prim.Native.Nat.{ℕ, zero, suc, _+_, _*_, _/_, _%_}
 use Prim.Native.String.{String}
 use lib.Dec.{eqb, ltb}
 use lib.ListN.{length}
 use Rattle.rules.specs.Octets.{Bytes, if_then_else_, wordAt, ascii, same, begins, ends, holds}
 use Rattle.rules.specs.Events.{Property}
-use Rattle.rules.specs.Tree.{Node, Tree, node, valueOf, phandleOf, among}
+use Rattle.rules.specs.Tree.{Tree, node, valueOf, phandleOf, among}
 
 -- ---- the rule table
 

@@ -1,10 +1,10 @@
 -- 01, "The writer": memory reservations (DTSpec 5.3). `FdtReserveEntry` and `check_overlapping` of the source.
-use mathlib.Core.Bool.{Bool, true, false, not, _&&_, _||_}
+use mathlib.Core.Bool.{Bool, true, false, _||_}
 use mathlib.Core.List.{List, [], _∷_, _++_}
 use Prim.Native.Nat.{ℕ, _+_, _^_}
 use lib.Dec.{eqb, leb, ltb}
 use Rattle.rules.specs.Octets.{Bytes, be64}
-use Rattle.rules.specs.Outcome.{Outcome, gives, refuses, Test, first, _then_}
+use Rattle.rules.specs.Outcome.{Outcome, gives, first, _then_}
 
 pub record Entry : Type 0 where
   pub address : ℕ

@@ -1,5 +1,4 @@
 -- 01, "The blob, as read": the tokens of a structure block (DTSpec 5.4), with their places in it.
-use mathlib.Core.Bool.{Bool, true, false}
 use mathlib.Core.List.{List, [], _∷_}
 use Prim.Native.Nat.{ℕ, zero, suc, _+_}
 use lib.Dec.{eqb, leb}

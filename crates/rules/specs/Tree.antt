@@ -1,13 +1,13 @@
 -- 01, "The blob, as read": the nodes in blob order, refusals 10, 11 and 12, each "a pass of its own"; node, path and below.
 use mathlib.Core.Bool.{Bool, true, false, not, _&&_, _||_}
-use mathlib.Core.List.{List, [], _∷_, _++_, map}
-use mathlib.Core.Option.{Option, none, some, Option·map, orElse}
+use mathlib.Core.List.{List, [], _∷_, _++_}
+use mathlib.Core.Option.{Option, none, some, Option·map}
 use Prim.Native.Nat.{ℕ, zero, suc}
 use Prim.Native.String.{String}
 use lib.Dec.{eqb}
 use lib.ListN.{length, getD}
 use Rattle.rules.specs.Octets.{Bytes, if_then_else_, wordAt, ascii, same}
-use Rattle.rules.specs.Outcome.{Verdict, gives, refuses, passes, _then_, Test, first}
+use Rattle.rules.specs.Outcome.{Verdict, passes, _then_, first}
 use Rattle.rules.specs.Lists.{oneOf}
 use Rattle.rules.specs.Events.{Property, Event, opens, has, closes}
 

@@ -1,15 +1,15 @@
 -- 01, "The filtered copy": which bytes of a host are withheld. "Withheld: value bytes of a property of an uncopied node, unless the
 -- name is one that refusal 11 reads, or a reference property of a reached node, or `reg` of a CPU child."
 use mathlib.Core.Path.{_≡_}
-use mathlib.Core.Bool.{Bool, true, false, not, _&&_, _||_}
+use mathlib.Core.Bool.{Bool, false, not, _&&_, _||_}
 use mathlib.Core.List.{List, [], _∷_}
-use Prim.Native.Nat.{ℕ, suc, _+_}
+use Prim.Native.Nat.{ℕ, _+_}
 use lib.Dec.{leb, ltb}
 use lib.ListN.{length, getD}
 use Rattle.rules.specs.Octets.{Bytes, ascii, same}
 use Rattle.rules.specs.Lists.{oneOf, any}
 use Rattle.rules.specs.Events.{Property}
-use Rattle.rules.specs.Tree.{Node, Tree, node, Frame, frame, numbers, readName}
+use Rattle.rules.specs.Tree.{Tree, node, frame, numbers, readName}
 use Rattle.rules.specs.Reader.{treeRead}
 use Rattle.rules.specs.References.{Rules}
 use Rattle.rules.specs.Listing.{reachedList}

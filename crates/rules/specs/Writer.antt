@@ -2,11 +2,11 @@
 -- `FdtWriter` of the source. "Place is 0 throughout."
 use mathlib.Core.Bool.{Bool, true, false, not, _&&_, _||_}
 use mathlib.Core.List.{List, [], _∷_, _++_}
-use Prim.Native.Nat.{ℕ, suc, _+_, _-_, _*_, _%_, min}
+use Prim.Native.Nat.{ℕ, suc, _+_, _-_, _%_, min}
 use lib.Dec.{eqb, ltb, leb}
 use lib.ListN.{length, take}
 use Rattle.rules.specs.Ceilings.{blobCeiling, openCeiling, reservationCeiling}
-use Rattle.rules.specs.Octets.{Bytes, if_then_else_, be32, be64, words32, words64, zeros, filled, put, hasNul, closed, ascii, begins}
+use Rattle.rules.specs.Octets.{Bytes, if_then_else_, be32, words32, zeros, filled, put, hasNul, closed, ascii, begins}
 use Rattle.rules.specs.Names.{nodeNameValid, propertyNameValid}
 use Rattle.rules.specs.Lists.{oneOf}
 use Rattle.rules.specs.Outcome.{Verdict, settled, Test, first}

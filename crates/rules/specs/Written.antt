@@ -1,14 +1,14 @@
 -- 01, "The writer": what calls leave one after the other. First the bytes that given nodes and properties become; then a run of
 -- calls, each with the state and the buffers as the last one left them.
-use mathlib.Core.Bool.{Bool, true, false}
+use mathlib.Core.Bool.{Bool, false}
 use mathlib.Core.List.{List, [], _∷_, _++_}
 use Prim.Native.Nat.{ℕ, suc, _+_, _-_}
 use lib.ListN.{length, take}
 use Rattle.rules.specs.Octets.{Bytes, be32, be64, words32, words64, closed}
 use Rattle.rules.specs.Outcome.{Outcome, gives, refuses, _then_}
 use Rattle.rules.specs.Reservations.{Entry, block}
-use Rattle.rules.specs.Writer.{State, Answer, beginBytes, endBytes, propertyBytes, headerBytes, nameOffset, nameGrowth, startBytes, start, startData, setBootCpu, beginNode, beginNodeData, endNode, endNodeData, property, propertyData, propertyStrings, badString, badList, phandleName, phandle, phandleData, phandleStrings, phandleTable, finish, finishData}
-use Rattle.rules.specs.Events.{Property, Event, opens, has, closes}
+use Rattle.rules.specs.Writer.{State, beginBytes, endBytes, propertyBytes, headerBytes, nameOffset, nameGrowth, startBytes, start, startData, setBootCpu, beginNode, beginNodeData, endNode, endNodeData, property, propertyData, propertyStrings, badString, badList, phandleName, phandle, phandleData, phandleStrings, phandleTable, finish, finishData}
+use Rattle.rules.specs.Events.{Event, opens, has, closes}
 
 -- ---- nodes and properties, whatever room they take
 

@@ -2,8 +2,8 @@
 use mathlib.Core.Path.{_≡_, refl, sym, _∙_}
 use mathlib.Core.Logic.{_⊎_, inl, inr}
 use mathlib.Core.Bool.{Bool, true, false, not, _&&_, _||_}
-use mathlib.Core.List.{List, [], _∷_, Memᴰ·cast}
-use Prim.Native.Nat.{ℕ, zero, suc, _<_}
+use mathlib.Core.List.{List, Memᴰ·cast}
+use Prim.Native.Nat.{ℕ, suc, _<_}
 use native.Mathlib.Omega.{arith}
 use lib.ListN.{length}
 use lib.Dec.{eqb}
@@ -33,16 +33,20 @@ module _ (t : Tree) (w : Formed t) where
   pub below-trans : (p q i : ℕ) → below t p q ≡ true → i < length t → below t q i ≡ true → below t p i ≡ true
   unfolding climb
   below-trans p q i b = by-parent t w (λ i. below t q i ≡ true → below t p i ≡ true) (λ e. e)
-      (λ i h ih e. below-step t w p i h ∙ or-right (eqb (node t (suc i) .parent) p) (below t p (node t (suc i) .parent)) (elim (below-cases q i h e) [ inl g ↦ rw g b | inr g ↦ ih g ])) i
+      (λ i h ih e. below-step t w p i h ∙ or-right (eqb (node t (suc i) .parent) p) (below t p (node t (suc i) .parent))
+      (elim (below-cases q i h e) [ inl g ↦ rw g b | inr g ↦ ih g ])) i
 
   -- what is not within some nodes has its parent not within them
   within-up : (l : List ℕ) (i : ℕ) → suc i < length t → within (frame t) l (suc i) ≡ false → within (frame t) l (node t (suc i) .parent) ≡ false
   within-up l i h e = spared-within t l (node t (suc i) .parent) (λ d m.
-      let k = or-false (eqb (node t (suc i) .parent) d) (below t d (node t (suc i) .parent)) (sym (below-step t w d i h) ∙ within-spared t l (suc i) e d m .1) in
+      let k =
+      or-false (eqb (node t (suc i) .parent) d) (below t d (node t (suc i) .parent))
+      (sym (below-step t w d i h) ∙ within-spared t l (suc i) e d m .1) in
       (eqb-false (node t (suc i) .parent) d (k .0), k .1))
 
   -- a node within some nodes is one of them, or its parent is within them
-  within-down : (l : List ℕ) (i : ℕ) → suc i < length t → within (frame t) l (suc i) ≡ true → (suc i ∈ l) ⊎ (within (frame t) l (node t (suc i) .parent) ≡ true)
+  within-down : (l : List ℕ) (i : ℕ) → suc i < length t → within (frame t) l (suc i) ≡ true
+      → (suc i ∈ l) ⊎ (within (frame t) l (node t (suc i) .parent) ≡ true)
   unfolding within
   within-down l i h e =
       let p : ℕ = node t (suc i) .parent in
@@ -56,9 +60,11 @@ module _ (t : Tree) (w : Formed t) where
         ]))
       ]
 
-  near-up : (ls : List ℕ) → ((x : ℕ) → x ∈ ls → x < length t) → (i : ℕ) → suc i < length t → near (frame t) ls (suc i) ≡ true → near (frame t) ls (node t (suc i) .parent) ≡ true
+  near-up : (ls : List ℕ) → ((x : ℕ) → x ∈ ls → x < length t) → (i : ℕ) → suc i < length t → near (frame t) ls (suc i) ≡ true
+      → near (frame t) ls (node t (suc i) .parent) ≡ true
   unfolding near
-  near-up ls small i h e = yes-any (λ j. eqb p j || below t j p || below t p j) (r .1) (go (or-cases (eqb (suc i) j || below t j (suc i)) (below t (suc i) j) (r .2)))
+  near-up ls small i h e =
+      yes-any (λ j. eqb p j || below t j p || below t p j) (r .1) (go (or-cases (eqb (suc i) j || below t j (suc i)) (below t (suc i) j) (r .2)))
     where
       p : ℕ
       p = node t (suc i) .parent
@@ -79,14 +85,18 @@ module _ (t : Tree) (w : Formed t) where
       go (inr b) = third (below-trans p (suc i) j (below-parent i h) (small j (r .1)) b)
       go (inl b) = elim (or-cases (eqb (suc i) j) (below t j (suc i)) b) [
         | inl a ↦ third (rw (← eqb-true (suc i) j a) (below-parent i h))
-        | inr a ↦ first (elim (below-cases j i h a) [ inl c ↦ or-left (eqb p j) (below t j p) (eq-eqb p j c) | inr c ↦ or-right (eqb p j) (below t j p) c ])
+        | inr a ↦ first (elim (below-cases j i h a) [
+          | inl c ↦ or-left (eqb p j) (below t j p) (eq-eqb p j c)
+          | inr c ↦ or-right (eqb p j) (below t j p) c
+        ])
       ]
 
 module _ (q : Asked) (f : Frame) (strange : ℕ → Bool) (ls : List ℕ) (i : ℕ) where
   abbrev all : List ℕ
   all = numbers f
 
-  picked-cpu : within f (keep (isCpus f) all) i ≡ true → picked q f strange ls i ≡ (eqb i 0 || (not (null (q .ids)) && not (within f (keep strange all) i)))
+  picked-cpu : within f (keep (isCpus f) all) i ≡ true → picked q f strange ls i
+      ≡ (eqb i 0 || (not (null (q .ids)) && not (within f (keep strange all) i)))
   unfolding picked
   picked-cpu e = rw (e, picked)
 

@@ -1,34 +1,34 @@
 -- The tree of a blob that the reader accepts is formed: parents come before their children, names are not empty and hold no slash,
 -- siblings differ. And the nodes that a request configures, where it passes 42, are nodes, each once.
 use mathlib.Core.Path.{_≡_, refl, sym, ap, _∙_, subst}
-use mathlib.Core.Logic.{_⊎_, inl, inr}
-use mathlib.Core.Bool.{Bool, true, false, not, _&&_, _||_}
-use mathlib.Core.Option.{Option, none, some}
-use mathlib.Core.List.{List, [], _∷_, List·Memᴰ·head, List·Memᴰ·tail, List·Memᴰ·not-nil, List·Memᴰ·cases-cons, Memᴰ·cast}
-use Prim.Native.Nat.{ℕ, zero, suc, _+_, _≤_, _<_}
+use mathlib.Core.Logic.{inl, inr}
+use mathlib.Core.Bool.{Bool, true, false, _&&_}
+use mathlib.Core.Option.{none, some}
+use mathlib.Core.List.{List, [], _∷_, List·Memᴰ·head, List·Memᴰ·tail, List·Memᴰ·not-nil, List·Memᴰ·cases-cons}
+use Prim.Native.Nat.{ℕ, zero, suc, _+_, _<_}
 use native.Mathlib.Omega.{arith}
-use lib.ListN.{length, getD, List·getD-eq-default}
-use lib.Dec.{eqb, leb}
-use borrow.Author.Tests.{eqb-true, eqb-false, eq-eqb}
+use lib.ListN.{length, List·getD-eq-default}
+use lib.Dec.{eqb}
+use borrow.Author.Tests.{eq-eqb}
 use Rattle.rules.specs.Octets.{Bytes, same}
-use Rattle.rules.specs.Outcome.{Verdict, gives, refuses, passes, _then_}
+use Rattle.rules.specs.Outcome.{passes, _then_}
 use Rattle.rules.specs.Blob.{Block, blockIn, headerJudged, missing}
 use Rattle.rules.specs.Tokens.{Placed, following, tokensFrom, tokens, tokenAt}
-use Rattle.rules.specs.Events.{Walk, atStart, nodeNameAt, propertyReads, onToken, after, judge, shapeJudged, Event, opens, has, closes, saying, eventsOf, eventsIn}
-use Rattle.rules.specs.Tree.{Node, Tree, node, nowhere, propsOf, nodesFrom, nodesOf, Frame, frame, numbers, sibling, doubledProps, doubledFrom, doubledJudged, wordsJudged, sharedJudged}
+use Rattle.rules.specs.Events.{Walk, nodeNameAt, propertyReads, onToken, after, judge, shapeJudged, Event, opens, saying, eventsOf, eventsIn}
+use Rattle.rules.specs.Tree.{Node, Tree, node, nowhere, nodesFrom, nodesOf, Frame, numbers, sibling, doubledFrom, doubledJudged, wordsJudged, sharedJudged}
 use Rattle.rules.specs.Reader.{eventsRead, treeRead, blobJudged}
 use Rattle.rules.specs.Derivation.{Request, Given, given, nodeAmong, nodeAt, repeats, configuredFrom, configuredJudged, nodesNamed, asked}
 use Rattle.rules.specs.declared.Token.{Token}
 use Rattle.rules.specs.declared.Token.the-variants.{Item, End, Cut}
-use Rattle.rules.specs.declared.Kind.{Kind}
 use Rattle.rules.specs.declared.Kind.the-variants.{Begin, EndNode, Prop, Nop}
 use Rattle.rules.specs.Listing.{_∈_}
-use Rattle.rules.specs.Laws.Tests.{by-test, by-le, never, or-cases, or-left, or-right, or-false, true-and}
+use Rattle.rules.specs.Laws.Tests.{by-test, by-le, never, or-left, or-right, or-false, true-and}
 use Rattle.rules.specs.Laws.Octets.{same-eq, eq-same}
 use Rattle.rules.specs.Laws.Lists.{Distinct, none as alone, more, numbers-mem}
 use Rattle.rules.specs.Laws.References.{by-option}
 use Rattle.rules.specs.Laws.Verdicts.{gives-refuses, then-passes, one-passes}
-use Rattle.rules.specs.Laws.Shape.{reads-named, reads-plain, Opens, opening-passes, Closes, closing-passes, holding-passes}
+use Rattle.rules.specs.Laws.Shape.{reads-named, reads-plain, Opens, opening-passes, closing-passes, holding-passes}
+use Rattle.rules.specs.Laws.Passes.{doubled-step}
 use Rattle.rules.specs.Laws.Paths.{Formed}
 
 -- ---- the walk over the tokens
@@ -99,7 +99,9 @@ module _ (b : Block) where
       ih next is count true (λ x m. small x (List·Memᴰ·tail m))
       (closing-passes (λ (v : Walk). judge b v (tokensFrom fuel (b .structure) next)) (b .place + at) (i ∷ is) count ended h)
   walk-token fuel at ih (Item (Prop len name value) next) stack count ended small h =
-      let o = holding-passes (λ (v : Walk). judge b v (tokensFrom fuel (b .structure) next)) (b .place + at) stack count ended (propertyReads (b .strings) name) h in
+      let o =
+      holding-passes (λ (v : Walk). judge b v (tokensFrom fuel (b .structure) next)) (b .place + at) stack count ended
+      (propertyReads (b .strings) name) h in
       ih next stack count false small (o .on)
   walk-token fuel at ih (Item Nop next) stack count ended small h = ih next stack count ended small h
   walk-token fuel at ih End stack count ended small h = λ j l. absurd (omega arith)
@@ -129,18 +131,6 @@ sibling-yes n (List·Memᴰ·tail {x = k} {xs = ks} i) p q =
 -- two nodes that are told apart
 abbrev Apart : Node → Node → Type 0
 Apart n m = n .parent ≡ m .parent → n .name ≡ m .name → ⊥
-
-pub record Doubled (seen : List Node) (n : Node) (ns : List Node) : Type 0 where
-  pub siblings : sibling n seen ≡ false
-  pub props : doubledProps [] (n .props) ≡ passes
-  pub later : doubledFrom (n ∷ seen) ns ≡ passes
-
-pub doubled-step : (seen : List Node) (n : Node) (ns : List Node) → doubledFrom seen (n ∷ ns) ≡ passes → Doubled seen n ns
-unfolding doubledFrom
-doubled-step seen n ns h =
-    let a = then-passes _ (doubledProps [] (n .props) then doubledFrom (n ∷ seen) ns) tt h in
-    let c = then-passes (doubledProps [] (n .props)) (doubledFrom (n ∷ seen) ns) tt (a .1) in
-    record { siblings = one-passes (sibling n seen) 10 (n .place) (a .0); props = c .0; later = c .1 }
 
 apart-seen : (seen ns : List Node) → doubledFrom seen ns ≡ passes → (m : Node) → m ∈ seen → (j : ℕ) → j < length ns → Apart (node ns j) m
 apart-seen seen [] h m k j l = absurd (omega arith)

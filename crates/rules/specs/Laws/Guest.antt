@@ -1,11 +1,11 @@
 -- Demand 2 of the copy: the guest's events are a tree that the reader accepts, of exactly the copied nodes, in order, with all their
 -- properties.
-use mathlib.Core.Path.{_≡_, refl, sym, ap, ap₂, _∙_, subst}
-use mathlib.Core.Logic.{_⊎_, inl, inr}
-use mathlib.Core.Bool.{Bool, true, false, not, _&&_, _||_}
-use mathlib.Core.Option.{Option, none, some}
+use mathlib.Core.Path.{_≡_, refl, sym, ap, ap₂, _∙_}
+use mathlib.Core.Logic.{inl, inr}
+use mathlib.Core.Bool.{Bool, true, false, _&&_}
+use mathlib.Core.Option.{none}
 use mathlib.Core.List.{List, [], _∷_, map, List·Memᴰ·not-nil}
-use Prim.Native.Nat.{ℕ, zero, suc, _+_, _≤_, _<_}
+use Prim.Native.Nat.{ℕ, zero, suc, _+_, _<_}
 use native.Mathlib.Omega.{arith}
 use native.Mathlib.Nat.{add-zero, zero-add}
 use lib.ListN.{length}
@@ -13,21 +13,22 @@ use lib.Dec.{eqb}
 use borrow.Author.Tests.{eqb-true, eq-eqb}
 use Rattle.rules.specs.Octets.{Bytes, wordAt, same}
 use Rattle.rules.specs.Lists.{oneOf, keep}
-use Rattle.rules.specs.Outcome.{Verdict, passes, _then_, first, Test}
+use Rattle.rules.specs.Outcome.{passes}
 use Rattle.rules.specs.Blob.{blockIn}
-use Rattle.rules.specs.Events.{Property, Event, opens, has, closes, eventsJudged, eventsIn, shapeJudged}
+use Rattle.rules.specs.Events.{Property, Event}
 use Rattle.rules.specs.Tree.{Node, Tree, node, nodesFrom, nodesOf, frame, numbers, numbersFrom, sibling, doubledProps, doubledFrom, doubledJudged, wordsFrom, wordsJudged, phandleProp, sharedFrom, sharedJudged}
-use Rattle.rules.specs.Reader.{eventsRead, treeRead, blobJudged}
+use Rattle.rules.specs.Reader.{eventsRead, treeRead}
 use Rattle.rules.specs.References.{Rules}
 use Rattle.rules.specs.Listing.{_∈_, listed}
-use Rattle.rules.specs.Copy.{Asked, copied, sieve, guestEvents}
+use Rattle.rules.specs.Copy.{copied, guestEvents}
 use Rattle.rules.specs.Derivation.{Request, asked}
 use Rattle.rules.specs.Demands.{Fits, Granted, Plain, plain}
-use Rattle.rules.specs.Laws.Tests.{by-test, never, and-true, or-cases, or-left, or-right, true-and, not-passed}
+use Rattle.rules.specs.Laws.Tests.{never, and-true, or-cases, or-left, or-right, true-and, not-passed}
 use Rattle.rules.specs.Laws.Lists.{keep-yes, keep-no}
 use Rattle.rules.specs.Laws.References.{by-option}
-use Rattle.rules.specs.Laws.Verdicts.{then-passes, one-passes}
-use Rattle.rules.specs.Laws.Formed.{Accepted, accepted, read-formed, conf-distinct, conf-small, Doubled, doubled-step}
+use Rattle.rules.specs.Laws.Verdicts.{then-passes}
+use Rattle.rules.specs.Laws.Passes.{doubled-step, shared-none, shared-split, shared-join}
+use Rattle.rules.specs.Laws.Formed.{accepted, read-formed, conf-distinct, conf-small}
 use Rattle.rules.specs.Laws.Listing.{listed-small}
 use Rattle.rules.specs.Laws.Listed.{configured-granted}
 use Rattle.rules.specs.Laws.Copy.{copied-root, copied-parent}
@@ -43,28 +44,6 @@ words-picked (keeping {a = a} {b = b} {t = t} {u = u} y c p) h =
     let e = then-passes (wordsFrom none (b .props)) (wordsJudged u) tt h in
     rw (c .props, e .0) (words-picked p (e .1))
 words-picked (leaving {b = b} {u = u} y p) h = words-picked p (then-passes (wordsFrom none (b .props)) (wordsJudged u) tt h .1)
-
-module _ (seen : List ℕ) (n : Node) (ns : List Node) where
-  shared-none : phandleProp (n .props) ≡ none → sharedFrom seen (n ∷ ns) ≡ sharedFrom seen ns
-  unfolding sharedFrom
-  shared-none e = rw (e, sharedFrom)
-
-  shared-some : (p : Property) → phandleProp (n .props) ≡ some p
-      → sharedFrom seen (n ∷ ns)
-      ≡ (first (record { fails = oneOf (wordAt (p .value) 0) seen; number = 12; place = p .place } ∷ [])
-      then sharedFrom (wordAt (p .value) 0 ∷ seen) ns)
-  unfolding sharedFrom
-  shared-some p e = rw (e, sharedFrom)
-
-  shared-split : (p : Property) → phandleProp (n .props) ≡ some p → sharedFrom seen (n ∷ ns) ≡ passes
-      → (oneOf (wordAt (p .value) 0) seen ≡ false) × (sharedFrom (wordAt (p .value) 0 ∷ seen) ns ≡ passes)
-  shared-split p e h =
-      let k = then-passes _ (sharedFrom (wordAt (p .value) 0 ∷ seen) ns) tt (sym (shared-some p e) ∙ h) in
-      (one-passes (oneOf (wordAt (p .value) 0) seen) 12 (p .place) (k .0), k .1)
-
-  shared-join : (p : Property) → phandleProp (n .props) ≡ some p → oneOf (wordAt (p .value) 0) seen ≡ false
-      → sharedFrom (wordAt (p .value) 0 ∷ seen) ns ≡ passes → sharedFrom seen (n ∷ ns) ≡ passes
-  shared-join p e f h = shared-some p e ∙ rw (f, h)
 
 -- fewer have been seen
 abbrev Fewer : List ℕ → List ℕ → Type 0
@@ -161,7 +140,7 @@ unfolding nodesFrom
 first-up (finished z) = refl
 first-up (root z e t) = refl
 
-module _ (r : Rules) (host : Bytes) (q : Request) (g : Granted r host q) where
+module _ (r : Rules) (host : Bytes) (q : Request) (g : Granted host q) where
   abbrev t : Tree
   t = treeRead host
 

@@ -1,18 +1,10 @@
 -- Demand 2 of the list: a path is listed exactly if 01's rule says so, and once.
 use mathlib.Core.Path.{_≡_}
-use mathlib.Core.Logic.{_↔_}
-use mathlib.Core.List.{List, [], _∷_}
-use Prim.Native.Nat.{ℕ, _<_}
-use lib.ListN.{length}
-use Rattle.rules.specs.Octets.{Bytes}
 use Rattle.rules.specs.Outcome.{passes, _then_}
 use Rattle.rules.specs.Tree.{Tree, frame}
 use Rattle.rules.specs.Reader.{treeRead}
-use Rattle.rules.specs.References.{Rules}
-use Rattle.rules.specs.Listing.{_∈_}
 use Rattle.rules.specs.Derivation.{Request, asked, listsJudged, configuredJudged, cpusJudged, idsFrom, requestJudged, listedPaths}
-use Rattle.rules.specs.Demands.{Granted, ListedExactly, ListedOnce}
-use Rattle.rules.specs.Laws.Lists.{Distinct}
+use Rattle.rules.specs.Demands.{ListedExactly, ListedOnce}
 use Rattle.rules.specs.Laws.Verdicts.{then-passes}
 use Rattle.rules.specs.Laws.Formed.{read-formed, conf-distinct, conf-small}
 use Rattle.rules.specs.Laws.Listing.{paths-iff, paths-once}

@@ -1,15 +1,15 @@
 -- The laws of the list: it holds exactly what 01's rule says, each once.
-use mathlib.Core.Path.{_≡_, refl, sym, ap, _∙_}
+use mathlib.Core.Path.{_≡_, refl, sym, _∙_}
 use mathlib.Core.Logic.{_⊎_, inl, inr, _↔_}
-use mathlib.Core.Bool.{Bool, true, false, not, _&&_, _||_}
+use mathlib.Core.Bool.{true, false, not, _&&_, _||_}
 use mathlib.Core.List.{List, [], _∷_, _++_, map, List·Memᴰ·head, List·Memᴰ·tail, List·Memᴰ·not-nil, List·Memᴰ·cases-cons, Memᴰ·cast, Memᴰ·append-left, Memᴰ·append-right, List·Memᴰ·append-cases, Memᴰ·map, Memᴰ·of-map, reverse}
-use Prim.Native.Nat.{ℕ, zero, suc, _+_, _<_}
+use Prim.Native.Nat.{ℕ, _<_}
 use native.Mathlib.Omega.{arith}
 use lib.ListN.{length, getD, length-map}
 use lib.Dec.{eqb}
 use borrow.Author.Tests.{eqb-false, ne-eqb, not-true}
 use Rattle.rules.specs.Octets.{Bytes}
-use Rattle.rules.specs.Lists.{keep, any, fresh, sort}
+use Rattle.rules.specs.Lists.{keep, fresh}
 use Rattle.rules.specs.Tree.{Tree, frame, below, path, numbersFrom}
 use Rattle.rules.specs.References.{Rules, targets}
 use Rattle.rules.specs.Listing.{_∈_, Reached, configured, under, referenced, Spared, Listed, nodesBelow, gather, givenNodes, starts, found, reachedList, within, listed}
@@ -41,7 +41,13 @@ pub record Gathered (f : ℕ → List ℕ) (noted cs out : List ℕ) : Type 0 wh
 
 gathered : (f : ℕ → List ℕ) (noted cs : List ℕ) → Gathered f noted cs (gather f noted cs)
 unfolding gather
-gathered f noted [] = record { among = λ x m. absurd (List·Memᴰ·not-nil m); all = λ x c m k. absurd (List·Memᴰ·not-nil m); apart = λ x m k. List·Memᴰ·not-nil m; once = none }
+gathered f noted [] =
+    record {
+      among = λ x m. absurd (List·Memᴰ·not-nil m);
+      all = λ x c m k. absurd (List·Memᴰ·not-nil m);
+      apart = λ x m k. List·Memᴰ·not-nil m;
+      once = none;
+    }
 gathered f noted (c ∷ cs) = go (gathered f (new ++ noted) cs)
   where
     new : List ℕ
@@ -63,7 +69,11 @@ gathered f noted (c ∷ cs) = go (gathered f (new ++ noted) cs)
 
     go : Gathered f (new ++ noted) cs out → Gathered f noted (c ∷ cs) (new ++ out)
     go g = record {
-      among = λ x m. elim (List·Memᴰ·append-cases new m) [ inl k ↦ (c, List·Memᴰ·head refl, n .among x k) | inr k ↦ let r = g .among x k in (r .0, List·Memᴰ·tail (r .1), r .2) ];
+      among =
+          λ x m. elim (List·Memᴰ·append-cases new m) [
+            | inl k ↦ (c, List·Memᴰ·head refl, n .among x k)
+            | inr k ↦ let r = g .among x k in (r .0, List·Memᴰ·tail (r .1), r .2)
+          ];
       all = λ x d m k. elim (List·Memᴰ·cases-cons m) [ inl e ↦ first x (n .all x (rw e at k)) | inr j ↦ later x (g .all x d j k) ];
       apart = λ x m k. elim (List·Memᴰ·append-cases new m) [ inl j ↦ n .apart x j k | inr j ↦ g .apart x j (Memᴰ·append-right new k) ];
       once = distinct-append new out (n .once) (g .once) (λ x m k. g .apart x k (Memᴰ·append-left noted m));
@@ -76,7 +86,9 @@ ascending-distinct {key} (put {x = x} f a) = more (λ m. before-irrefl (key x) (
 module _ (r : Rules) (t : Tree) (w : Formed t) (conf : List ℕ) (distinct : Distinct conf) (small : (x : ℕ) → x ∈ conf → x < length t) where
   keyed-of : {l : List ℕ} → Distinct l → ((x : ℕ) → x ∈ l → x < length t) → Keyed (path t) l
   keyed-of none h = unkeyed
-  keyed-of (more {x = x} n d) h = keyed (λ y m e. n (Memᴰ·cast (path-known t w x y (h x (List·Memᴰ·head refl)) (h y (List·Memᴰ·tail m)) e) m)) (keyed-of d (λ z m. h z (List·Memᴰ·tail m)))
+  keyed-of (more {x = x} n d) h =
+      keyed (λ y m e. n (Memᴰ·cast (path-known t w x y (h x (List·Memᴰ·head refl)) (h y (List·Memᴰ·tail m)) e) m))
+      (keyed-of d (λ z m. h z (List·Memᴰ·tail m)))
 
   g : Gathered (nodesBelow (frame t)) conf conf (gather (nodesBelow (frame t)) conf conf)
   g = gathered (nodesBelow (frame t)) conf conf
@@ -111,7 +123,11 @@ module _ (r : Rules) (t : Tree) (w : Formed t) (conf : List ℕ) (distinct : Dis
 
   under-given : (p x : ℕ) → p ∈ conf → x < length t → below t p x ≡ true → x ∈ givenNodes (frame t) conf
   unfolding givenNodes
-  under-given p x m h b = elim (g .all x p m (of-below t p x h b)) [ inl k ↦ Memᴰ·append-right conf k | inr k ↦ Memᴰ·append-left (gather (nodesBelow (frame t)) conf conf) k ]
+  under-given p x m h b =
+      elim (g .all x p m (of-below t p x h b)) [
+        | inl k ↦ Memᴰ·append-right conf k
+        | inr k ↦ Memᴰ·append-left (gather (nodesBelow (frame t)) conf conf) k
+      ]
 
   conf-given : (x : ℕ) → x ∈ conf → x ∈ givenNodes (frame t) conf
   unfolding givenNodes
@@ -133,11 +149,16 @@ module _ (r : Rules) (t : Tree) (w : Formed t) (conf : List ℕ) (distinct : Dis
   -- the starts are distinct nodes, so the worklist is right
   all-iff : (x : ℕ) → (x ∈ starts (frame t) conf ++ out) ↔ Reach (targets r t) (starts (frame t) conf) x
   unfolding out
-  all-iff = found-iff (targets r t) (length t) (targets-range r t) (starts (frame t) conf) (ascending-distinct starts-ascending) (λ x m. given-small x (starts-of x m))
+  all-iff =
+      found-iff (targets r t) (length t) (targets-range r t) (starts (frame t) conf) (ascending-distinct starts-ascending)
+      (λ x m. given-small x (starts-of x m))
 
   pub reachedList-iff : (x : ℕ) → (x ∈ reachedList r t conf) ↔ Reached r t conf x
   unfolding reachedList out
-  reachedList-iff x = (λ m. reach-reached (all-iff x .0 (to (List·Memᴰ·append-cases (givenNodes (frame t) conf) m))), λ h. back (List·Memᴰ·append-cases (starts (frame t) conf) (all-iff x .1 (reached-reach h))))
+  reachedList-iff x = (
+    λ m. reach-reached (all-iff x .0 (to (List·Memᴰ·append-cases (givenNodes (frame t) conf) m))),
+    λ h. back (List·Memᴰ·append-cases (starts (frame t) conf) (all-iff x .1 (reached-reach h))),
+  )
     where
       to : (x ∈ givenNodes (frame t) conf) ⊎ (x ∈ out) → x ∈ starts (frame t) conf ++ out
       to (inl k) = Memᴰ·append-left out (of-starts x k)
@@ -150,7 +171,8 @@ module _ (r : Rules) (t : Tree) (w : Formed t) (conf : List ℕ) (distinct : Dis
   reachedList-once : Distinct (reachedList r t conf)
   unfolding reachedList found
   reachedList-once = let o = work-once (targets r t) (length t) (reverse (starts (frame t) conf)) (starts (frame t) conf) in
-      distinct-append (givenNodes (frame t) conf) (found (targets r t) (length t) (starts (frame t) conf)) given-distinct (o .0) (λ x m k. o .1 x k (of-starts x m))
+      distinct-append (givenNodes (frame t) conf) (found (targets r t) (length t) (starts (frame t) conf)) given-distinct (o .0)
+      (λ x m k. o .1 x k (of-starts x m))
 
   pub reached-small : {x : ℕ} → Reached r t conf x → x < length t
   reached-small {x} (configured m) = small x m

@@ -1,37 +1,36 @@
 -- Events that pass the shape, as a tree of cases; and that the events of tokens that pass, pass.
-use mathlib.Core.Path.{_≡_, refl, sym, ap, _∙_}
-use mathlib.Core.Logic.{_⊎_, inl, inr}
-use mathlib.Core.Bool.{Bool, true, false, not, _&&_, _||_}
+use mathlib.Core.Path.{_≡_, refl}
+use mathlib.Core.Bool.{Bool, true, false}
 use mathlib.Core.List.{List, [], _∷_}
-use Prim.Native.Nat.{ℕ, zero, suc, _+_, _≤_, _<_}
-use native.Mathlib.Omega.{arith}
+use Prim.Native.Nat.{ℕ, zero, suc, _+_, _<_}
 use lib.ListN.{length, drop}
-use lib.Dec.{eqb, leb}
-use borrow.Author.Tests.{eqb-true, eqb-false, eq-eqb, ne-eqb, leb-false, lt-leb}
+use lib.Dec.{eqb}
+use borrow.Author.Tests.{eq-eqb, ne-eqb, lt-leb}
 use Rattle.rules.specs.Ceilings.{nodeCeiling, openCeiling}
 use Rattle.rules.specs.Octets.{Bytes, hasNul}
 use Rattle.rules.specs.Names.{nodeNameReads, propertyNameReads}
-use Rattle.rules.specs.Outcome.{Verdict, gives, refuses, passes}
+use Rattle.rules.specs.Outcome.{Verdict, passes}
 use Rattle.rules.specs.Blob.{Block}
-use Rattle.rules.specs.Tokens.{Placed, following, tokensFrom, tokens, tokenAt}
-use Rattle.rules.specs.Events.{Walk, atStart, Step, stop, done, go, nodeNameAt, stringAt, propertyReads, opening, closing, holding, ending, onToken, after, judge, shapeJudged, Property, Event, opens, has, closes, saying, eventsOf, eventsIn, placeOf, onEvent, judgeEvents, eventsJudged}
+use Rattle.rules.specs.Tokens.{following, tokensFrom, tokens, tokenAt}
+use Rattle.rules.specs.Events.{Walk, atStart, Step, stop, done, go, nodeNameAt, stringAt, propertyReads, opening, closing, holding, ending, onToken, after, judge, shapeJudged, Property, Event, opens, has, closes, saying, eventsOf, eventsIn, judgeEvents, eventsJudged}
 use Rattle.rules.specs.declared.Token.{Token}
 use Rattle.rules.specs.declared.Token.the-variants.{Item, End, Cut}
-use Rattle.rules.specs.declared.Kind.{Kind}
 use Rattle.rules.specs.declared.Kind.the-variants.{Begin, EndNode, Prop, Nop}
-use Rattle.rules.specs.Laws.Tests.{by-test, never, and-true}
+use Rattle.rules.specs.Laws.Tests.{by-test, and-true}
 use Rattle.rules.specs.Laws.Verdicts.{gives-refuses}
-use Rattle.rules.specs.Laws.Shape.{Opens, opening-passes, Closes, closing-passes, Holds, holding-passes}
+use Rattle.rules.specs.Laws.Shape.{opening-passes, closing-passes, holding-passes}
 
 -- ---- from tokens to events
 
 -- what passes goes on to pass
-after-mono : (f g : Walk → Verdict) (p p′ : ℕ) (s : Step) → ((w : Walk) → f w ≡ passes → g w ≡ passes) → after f p s ≡ passes → after g p′ s ≡ passes
+pub after-mono : (f g : Walk → Verdict) (p p′ : ℕ) (s : Step) → ((w : Walk) → f w ≡ passes → g w ≡ passes) → after f p s ≡ passes
+    → after g p′ s ≡ passes
 after-mono f g p p′ (stop number) h e = gives-refuses tt number p e
 after-mono f g p p′ done h e = refl
 after-mono f g p p′ (go w) h e = h w e
 
-ending-passes : (f g : Walk → Verdict) (p p′ : ℕ) (w : Walk) (last : Bool) → after f p (ending w last) ≡ passes → after g p′ (ending w true) ≡ passes
+pub ending-passes : (f g : Walk → Verdict) (p p′ : ℕ) (w : Walk) (last : Bool) → after f p (ending w last) ≡ passes
+    → after g p′ (ending w true) ≡ passes
 unfolding ending
 ending-passes f g p p′ w last h = go (w .stack) (w .count) last h
   where
@@ -57,7 +56,8 @@ name-reads strings offset e = and-true (hasNul (drop offset strings)) (propertyN
 
 module _ (b : Block) where
   abbrev Passes : ℕ → ℕ → Type 0
-  Passes fuel at = (w : Walk) → judge b w (tokensFrom fuel (b .structure) at) ≡ passes → judgeEvents w (eventsOf b (tokensFrom fuel (b .structure) at)) ≡ passes
+  Passes fuel at =
+      (w : Walk) → judge b w (tokensFrom fuel (b .structure) at) ≡ passes → judgeEvents w (eventsOf b (tokensFrom fuel (b .structure) at)) ≡ passes
 
   token-passes : (fuel at : ℕ) → ((to : ℕ) → Passes fuel to) → (k : Token) (w : Walk)
       → after (λ (v : Walk). judge b v (following (tokensFrom fuel (b .structure)) k)) (b .place + at) (onToken b w at k) ≡ passes

@@ -1,7 +1,7 @@
 -- The byte order of byte strings, a strict total order, and lists sorted by it.
 use mathlib.Core.Path.{_≡_, refl, sym, ap₂, _∙_}
 use mathlib.Core.Logic.{_⊎_, inl, inr}
-use mathlib.Core.Bool.{Bool, true, false, _&&_, _||_}
+use mathlib.Core.Bool.{true, false, _&&_}
 use mathlib.Core.List.{List, [], _∷_, List·Memᴰ·head, List·Memᴰ·tail, List·Memᴰ·not-nil, List·Memᴰ·cases-cons}
 use Prim.Native.Nat.{ℕ, _≤_, _<_}
 use native.Mathlib.Omega.{arith}
@@ -39,7 +39,8 @@ before-trans (x ∷ k) [] m p q = never true refl (sym p)
 before-trans (x ∷ k) (y ∷ l) [] p q = q
 before-trans (x ∷ k) (y ∷ l) (z ∷ m) p q = cons-before x z k m (go (before-cons x y k l p) (before-cons y z l m q) (before-trans k l m))
   where
-    go : (x < y) ⊎ ((x ≡ y) × (before k l ≡ true)) → (y < z) ⊎ ((y ≡ z) × (before l m ≡ true)) → (before k l ≡ true → before l m ≡ true → before k m ≡ true)
+    go : (x < y) ⊎ ((x ≡ y) × (before k l ≡ true)) → (y < z) ⊎ ((y ≡ z) × (before l m ≡ true))
+        → (before k l ≡ true → before l m ≡ true → before k m ≡ true)
         → (x < z) ⊎ ((x ≡ z) × (before k m ≡ true))
     go (inl a) (inl b) ih = inl (omega arith)
     go (inl a) (inr b) ih = inl (omega arith)
@@ -88,7 +89,10 @@ module _ {A : Type 0} (key : A → Bytes) where
   unfolding insert
   insert-of x [] z m = m
   insert-of x (y ∷ ys) z m = by-test (before (key y) (key x))
-      (λ e. elim (List·Memᴰ·cases-cons (rw (insert-past x y ys e) at m)) [ inl q ↦ List·Memᴰ·tail (List·Memᴰ·head q) | inr k ↦ swap (insert-of x ys z k) ])
+      (λ e. elim (List·Memᴰ·cases-cons (rw (insert-past x y ys e) at m)) [
+        | inl q ↦ List·Memᴰ·tail (List·Memᴰ·head q)
+        | inr k ↦ swap (insert-of x ys z k)
+      ])
       (λ e. rw (insert-here x y ys e) at m)
     where
       swap : z ∈ x ∷ ys → z ∈ x ∷ y ∷ ys
@@ -109,18 +113,21 @@ module _ {A : Type 0} (key : A → Bytes) where
   pub sort-of : (l : List A) (z : A) → z ∈ sort key l → z ∈ l
   unfolding sort
   sort-of [] z m = m
-  sort-of (x ∷ xs) z m = elim (List·Memᴰ·cases-cons (insert-of x (sort key xs) z m)) [ inl q ↦ List·Memᴰ·head q | inr k ↦ List·Memᴰ·tail (sort-of xs z k) ]
+  sort-of (x ∷ xs) z m =
+      elim (List·Memᴰ·cases-cons (insert-of x (sort key xs) z m)) [ inl q ↦ List·Memᴰ·head q | inr k ↦ List·Memᴰ·tail (sort-of xs z k) ]
 
   pub of-sort : (l : List A) (z : A) → z ∈ l → z ∈ sort key l
   unfolding sort
   of-sort [] z m = m
-  of-sort (x ∷ xs) z m = of-insert x (sort key xs) z (elim (List·Memᴰ·cases-cons m) [ inl q ↦ List·Memᴰ·head q | inr k ↦ List·Memᴰ·tail (of-sort xs z k) ])
+  of-sort (x ∷ xs) z m =
+      of-insert x (sort key xs) z (elim (List·Memᴰ·cases-cons m) [ inl q ↦ List·Memᴰ·head q | inr k ↦ List·Memᴰ·tail (of-sort xs z k) ])
 
   insert-ascending : (x : A) {l : List A} → ((y : A) → y ∈ l → key x ≡ key y → ⊥) → Ascending l → Ascending (insert key x l)
   unfolding insert
   insert-ascending x h empty = put (λ y m. absurd (List·Memᴰ·not-nil m)) empty
   insert-ascending x h (put {x = y} {l = ys} f a) = by-test (before (key y) (key x))
-      (λ e. rw (insert-past x y ys e) (put (λ z m. past e z (List·Memᴰ·cases-cons (insert-of x ys z m))) (insert-ascending x (λ z m. h z (List·Memᴰ·tail m)) a)))
+      (λ e. rw (insert-past x y ys e) (put (λ z m. past e z (List·Memᴰ·cases-cons (insert-of x ys z m)))
+      (insert-ascending x (λ z m. h z (List·Memᴰ·tail m)) a)))
       (λ e. rw (insert-here x y ys e) (put (λ z m. first (least e) z (List·Memᴰ·cases-cons m)) (put f a)))
     where
       past : before (key y) (key x) ≡ true → (z : A) → (z ≡ x) ⊎ (z ∈ ys) → before (key y) (key z) ≡ true
@@ -145,7 +152,8 @@ module _ {A : Type 0} (key : A → Bytes) where
   ascending-unique empty (put {x = y} f a) p q = absurd (List·Memᴰ·not-nil (q y (List·Memᴰ·head refl)))
   ascending-unique (put {x = x} f a) empty p q = absurd (List·Memᴰ·not-nil (p x (List·Memᴰ·head refl)))
   ascending-unique (put {x = x} {l = k} f a) (put {x = y} {l = l} g b) p q =
-      ap₂ (λ (z : A) (m : List A). z ∷ m) heads (ascending-unique a b (λ z m. left z m (List·Memᴰ·cases-cons (p z (List·Memᴰ·tail m)))) (λ z m. right z m (List·Memᴰ·cases-cons (q z (List·Memᴰ·tail m)))))
+      ap₂ (λ (z : A) (m : List A). z ∷ m) heads (ascending-unique a b (λ z m. left z m (List·Memᴰ·cases-cons (p z (List·Memᴰ·tail m))))
+      (λ z m. right z m (List·Memᴰ·cases-cons (q z (List·Memᴰ·tail m)))))
     where
       pick : (x ≡ y) ⊎ (x ∈ l) → (y ≡ x) ⊎ (y ∈ k) → x ≡ y
       pick (inl e) n = e

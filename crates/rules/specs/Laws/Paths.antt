@@ -2,15 +2,15 @@
 -- other's and a slash, so that `/soc2` is not below `/soc`.
 use mathlib.Core.Path.{_≡_, refl, sym, ap, ap₂, _∙_}
 use mathlib.Core.Logic.{_⊎_, inl, inr, _↔_}
-use mathlib.Core.Bool.{Bool, true, false, _||_}
-use mathlib.Core.List.{List, [], _∷_, _++_, append-assoc, List·Memᴰ·head, List·Memᴰ·not-nil, List·Memᴰ·cases-cons, Memᴰ·append-right}
+use mathlib.Core.Bool.{Bool, true, _||_}
+use mathlib.Core.List.{[], _∷_, _++_, append-assoc, List·Memᴰ·head, List·Memᴰ·not-nil, List·Memᴰ·cases-cons, Memᴰ·append-right}
 use Prim.Native.Nat.{ℕ, zero, suc, _≤_, _<_}
 use native.Mathlib.Omega.{arith}
 use lib.ListN.{length}
 use lib.Dec.{eqb}
 use borrow.Author.Tests.{eqb-true, eqb-false, eq-eqb}
 use Rattle.rules.specs.Octets.{Bytes}
-use Rattle.rules.specs.Tree.{Node, Tree, node, climb, below, spell, path}
+use Rattle.rules.specs.Tree.{Tree, node, climb, below, spell, path}
 use Rattle.rules.specs.Listing.{_∈_}
 use Rattle.rules.specs.Laws.Tests.{by-test, never, or-cases, or-left, or-right}
 
@@ -47,7 +47,8 @@ module _ (t : Tree) (w : Formed t) where
   spell-enough zero l (suc i) d e h = absurd (omega arith)
   spell-enough (suc k) zero (suc i) d e h = absurd (omega arith)
   spell-enough (suc k) (suc l) (suc i) d e h = let u : node t (suc i) .parent ≤ i = w .up i h in
-      ap (λ (s : Bytes). s ++ 47 ∷ node t (suc i) .name) (spell-enough k l (node t (suc i) .parent) (omega arith) (omega arith) (omega arith))
+      ap (λ (s : Bytes). s ++ 47 ∷ node t (suc i) .name)
+      (spell-enough k l (node t (suc i) .parent) (omega arith) (omega arith) (omega arith))
 
   climb-enough : (p k l i : ℕ) → i ≤ k → i ≤ l → i < length t → climb t k p i ≡ climb t l p i
   unfolding climb
@@ -63,12 +64,14 @@ module _ (t : Tree) (w : Formed t) where
   pub trail-step : (i : ℕ) → suc i < length t → trail t (suc i) ≡ trail t (node t (suc i) .parent) ++ 47 ∷ node t (suc i) .name
   unfolding spell
   trail-step i h = let u : node t (suc i) .parent ≤ i = w .up i h in
-      ap (λ (s : Bytes). s ++ 47 ∷ node t (suc i) .name) (spell-enough i (node t (suc i) .parent) (node t (suc i) .parent) u (omega arith) (omega arith))
+      ap (λ (s : Bytes). s ++ 47 ∷ node t (suc i) .name)
+      (spell-enough i (node t (suc i) .parent) (node t (suc i) .parent) u (omega arith) (omega arith))
 
   pub below-step : (p i : ℕ) → suc i < length t → below t p (suc i) ≡ (eqb (node t (suc i) .parent) p || below t p (node t (suc i) .parent))
   unfolding climb
   below-step p i h = let u : node t (suc i) .parent ≤ i = w .up i h in
-      ap (λ (b : Bool). eqb (node t (suc i) .parent) p || b) (climb-enough p i (node t (suc i) .parent) (node t (suc i) .parent) u (omega arith) (omega arith))
+      ap (λ (b : Bool). eqb (node t (suc i) .parent) p || b)
+      (climb-enough p i (node t (suc i) .parent) (node t (suc i) .parent) u (omega arith) (omega arith))
 
 -- ---- byte strings with slashes
 
@@ -132,42 +135,62 @@ module _ (t : Tree) (w : Formed t) where
   path-known (suc i) zero g h e = absurd (root-other i g (sym e))
   path-known (suc i) (suc j) g h e = trail-known (suc i) g (suc j) h e
 
+  -- node i's path goes on from node p's and a slash
+  abbrev pub GoesOn : ℕ → ℕ → Type 0
+  GoesOn p i = (s : Bytes) × (trail t i ≡ trail t p ++ 47 ∷ s)
+
   -- BELOW IS GOING ON FROM A PATH AND A SLASH
-  pub below-path : (p i : ℕ) → i < length t → below t p i ≡ true → (s : Bytes) × (trail t i ≡ trail t p ++ 47 ∷ s)
+  pub below-path : (p i : ℕ) → i < length t → below t p i ≡ true → GoesOn p i
   unfolding climb
-  below-path p = by-parent t w (λ i. below t p i ≡ true → (s : Bytes) × (trail t i ≡ trail t p ++ 47 ∷ s)) root child
+  below-path p = by-parent t w (λ i. below t p i ≡ true → GoesOn p i) root child
     where
-      root : below t p zero ≡ true → (s : Bytes) × (trail t zero ≡ trail t p ++ 47 ∷ s)
+      root : below t p zero ≡ true → GoesOn p zero
       root e = never true refl (sym e)
 
-      child : (i : ℕ) → suc i < length t → (below t p (node t (suc i) .parent) ≡ true → (s : Bytes) × (trail t (node t (suc i) .parent) ≡ trail t p ++ 47 ∷ s))
-          → below t p (suc i) ≡ true → (s : Bytes) × (trail t (suc i) ≡ trail t p ++ 47 ∷ s)
+      child : (i : ℕ) → suc i < length t → (below t p (node t (suc i) .parent) ≡ true → GoesOn p (node t (suc i) .parent))
+          → below t p (suc i) ≡ true → GoesOn p (suc i)
       child i h ih b = elim (or-cases (eqb (node t (suc i) .parent) p) (below t p (node t (suc i) .parent)) (sym (below-step t w p i h) ∙ b)) [
-        | inl e ↦ (node t (suc i) .name, trail-step t w i h ∙ ap (λ (q : ℕ). trail t q ++ 47 ∷ node t (suc i) .name) (eqb-true (node t (suc i) .parent) p e))
+        | inl e ↦ (
+          node t (suc i) .name,
+          trail-step t w i h ∙ ap (λ (q : ℕ). trail t q ++ 47 ∷ node t (suc i) .name) (eqb-true (node t (suc i) .parent) p e),
+        )
         | inr e ↦ let r = ih e in (
           r .0 ++ 47 ∷ node t (suc i) .name,
-          trail-step t w i h ∙ ap (λ (l : Bytes). l ++ 47 ∷ node t (suc i) .name) (r .1) ∙ append-assoc (trail t p) (47 ∷ r .0) (47 ∷ node t (suc i) .name),
+          trail-step t w i h
+              ∙ ap (λ (l : Bytes). l ++ 47 ∷ node t (suc i) .name) (r .1)
+              ∙ append-assoc (trail t p) (47 ∷ r .0) (47 ∷ node t (suc i) .name),
         )
       ]
 
-  pub path-below : (p : ℕ) → p < length t → (i : ℕ) → i < length t → (s : Bytes) → trail t i ≡ trail t p ++ 47 ∷ s → below t p i ≡ true
+  pub path-below : (p : ℕ) → p < length t → (i : ℕ) → i < length t → GoesOn p i → below t p i ≡ true
   unfolding spell
-  path-below p g = by-parent t w (λ i. (s : Bytes) → trail t i ≡ trail t p ++ 47 ∷ s → below t p i ≡ true) root child
+  path-below p g = by-parent t w (λ i. GoesOn p i → below t p i ≡ true) root child
     where
-      root : (s : Bytes) → trail t zero ≡ trail t p ++ 47 ∷ s → below t p zero ≡ true
-      root s e = absurd (not-nil (trail t p) s 47 e)
+      root : GoesOn p zero → below t p zero ≡ true
+      root o = absurd (not-nil (trail t p) (o .0) 47 (o .1))
 
-      child : (i : ℕ) → suc i < length t → ((s : Bytes) → trail t (node t (suc i) .parent) ≡ trail t p ++ 47 ∷ s → below t p (node t (suc i) .parent) ≡ true)
-          → (s : Bytes) → trail t (suc i) ≡ trail t p ++ 47 ∷ s → below t p (suc i) ≡ true
-      child i h ih s e = below-step t w p i h ∙ go (last-slash s)
+      child : (i : ℕ) → suc i < length t → (GoesOn p (node t (suc i) .parent) → below t p (node t (suc i) .parent) ≡ true)
+          → GoesOn p (suc i) → below t p (suc i) ≡ true
+      child i h ih o = below-step t w p i h ∙ go (last-slash s)
         where
           q : ℕ
           q = node t (suc i) .parent
 
+          s : Bytes
+          s = o .0
+
           go : (47 ∈ s → ⊥) ⊎ ((a : Bytes) × (k : Bytes) × (s ≡ a ++ 47 ∷ k) × (47 ∈ k → ⊥)) → (eqb q p || below t p q) ≡ true
-          go (inl f) = let r = split-last (trail t q) (trail t p) (node t (suc i) .name) s (w .plain (suc i)) f (sym (trail-step t w i h) ∙ e) in
+          go (inl f) =
+              let r = split-last (trail t q) (trail t p) (node t (suc i) .name) s (w .plain (suc i)) f (sym (trail-step t w i h) ∙ o .1) in
               let u : q ≤ i = w .up i h in
               or-left (eqb q p) (below t p q) (eq-eqb q p (trail-known q (omega arith) p g (r .0)))
-          go (inr c) = let r = split-last (trail t q) (trail t p ++ 47 ∷ c .0) (node t (suc i) .name) (c .1) (w .plain (suc i)) (c .3)
-              (sym (trail-step t w i h) ∙ e ∙ ap (λ (l : Bytes). trail t p ++ 47 ∷ l) (c .2) ∙ sym (append-assoc (trail t p) (47 ∷ c .0) (47 ∷ c .1))) in
-              or-right (eqb q p) (below t p q) (ih (c .0) (r .0))
+          go (inr c) =
+              let e = sym (trail-step t w i h)
+              ∙ o .1
+              ∙ ap (λ (l : Bytes). trail t p ++ 47 ∷ l) (c .2)
+              ∙ sym (append-assoc (trail t p) (47 ∷ c .0) (47 ∷ c .1)) in
+              let r = split-last (trail t q) (trail t p ++ 47 ∷ c .0) (node t (suc i) .name) (c .1) (w .plain (suc i)) (c .3) e in
+              or-right (eqb q p) (below t p q) (ih (c .0, r .0))
+
+  pub below-iff : (p i : ℕ) → p < length t → i < length t → (below t p i ≡ true) ↔ GoesOn p i
+  below-iff p i g h = (below-path p i h, path-below p g i h)

@@ -1,15 +1,13 @@
 -- Demand 1 of a refusal: outputs keep their old bytes, and the work space ends as 01 says.
-use mathlib.Core.Path.{_≡_, refl, sym, ap, _∙_}
-use mathlib.Core.Bool.{Bool, true, false}
-use mathlib.Core.List.{List, [], _∷_, _++_}
-use Prim.Native.Nat.{ℕ, zero, suc, _+_, _-_, _≤_, _<_}
+use mathlib.Core.Path.{_≡_, sym, ap, _∙_}
+use mathlib.Core.List.{List, []}
+use Prim.Native.Nat.{ℕ, _+_}
 use native.Mathlib.Omega.{arith}
-use native.Mathlib.Nat.{add-zero, zero-add, sub-zero}
+use native.Mathlib.Nat.{sub-zero}
 use lib.ListN.{length, take, drop}
-use lib.Dec.{ltb}
 use borrow.Author.Tests.{le-ltb}
 use Rattle.rules.specs.Ceilings.{workWords}
-use Rattle.rules.specs.Octets.{Bytes, zeros, put}
+use Rattle.rules.specs.Octets.{zeros, put}
 use Rattle.rules.specs.Reader.{spaceOf, readWork}
 use Rattle.rules.specs.Derivation.{deriveList, deriveGuest, deriveWork}
 use Rattle.rules.specs.Demands.{OutputsKept, SpaceCleared, TableCleared}

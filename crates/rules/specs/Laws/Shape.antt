@@ -1,18 +1,18 @@
 -- The laws of the shape: what it says of a token, and of the walk behind it, that the walk passes; and what names that pass hold.
-use mathlib.Core.Path.{_≡_, refl, sym, ap, _∙_}
+use mathlib.Core.Path.{_≡_, refl, ap, _∙_}
 use mathlib.Core.Logic.{_⊎_, inl, inr}
-use mathlib.Core.Bool.{Bool, true, false, not, _&&_, _||_}
+use mathlib.Core.Bool.{Bool, true, false, not, _&&_}
 use mathlib.Core.List.{List, [], _∷_, List·Memᴰ·not-nil, List·Memᴰ·cases-cons}
-use Prim.Native.Nat.{ℕ, zero, suc, _+_, _≤_, _<_}
+use Prim.Native.Nat.{ℕ, suc, _<_}
 use native.Mathlib.Omega.{arith}
-use lib.ListN.{length, take, drop}
+use lib.ListN.{length}
 use lib.Dec.{eqb, leb}
 use borrow.Author.Tests.{eqb-true, eqb-false, leb-false, not-true}
-use Rattle.rules.specs.Ceilings.{nodeCeiling, openCeiling, nodeNameCeiling}
+use Rattle.rules.specs.Ceilings.{nodeCeiling, openCeiling, nodeNameCeiling, propertyNameCeiling}
 use Rattle.rules.specs.Octets.{Bytes}
 use Rattle.rules.specs.Lists.{every, oneOf}
-use Rattle.rules.specs.Names.{nodeChar, atSign, beforeAt, afterAt, within, nodeNameValid, nodeNameReads}
-use Rattle.rules.specs.Outcome.{Verdict, gives, refuses, passes}
+use Rattle.rules.specs.Names.{nodeChar, propertyChar, atSign, beforeAt, afterAt, within, nodeNameValid, nodeNameReads, propertyNameValid, propertyNameReads}
+use Rattle.rules.specs.Outcome.{Verdict, passes}
 use Rattle.rules.specs.Events.{Walk, Step, stop, done, go, opening, closing, holding, after}
 use Rattle.rules.specs.Listing.{_∈_}
 use Rattle.rules.specs.Laws.Tests.{by-test, never, and-true, or-cases}
@@ -29,27 +29,25 @@ at-past : (b : ℕ) (bs : Bytes) → eqb b 64 ≡ false → atSign (b ∷ bs) �
 unfolding atSign
 at-past b bs e = rw (e, atSign)
 
-slash-char : nodeChar 47 ≡ false
-unfolding nodeChar oneOf
-slash-char = refl
+-- a byte that is no character of a name, and no @
+module _ (x : ℕ) (foreign : nodeChar x ≡ false) (other : x ≡ 64 → ⊥) where
+  part-lacks : (s : Bytes) → every nodeChar s ≡ true → x ∈ s → ⊥
+  part-lacks s h m = never (nodeChar x) (every-mem nodeChar m h) foreign
 
-no-slash : (s : Bytes) → every nodeChar s ≡ true → 47 ∈ s → ⊥
-no-slash s h m = never (nodeChar 47) (every-mem nodeChar m h) slash-char
-
--- a name of such characters around an @ has no slash
-name-slash : (s : Bytes) → every nodeChar (beforeAt s) ≡ true → every nodeChar (afterAt s) ≡ true → 47 ∈ s → ⊥
-unfolding every
-name-slash [] p q m = List·Memᴰ·not-nil m
-name-slash (b ∷ bs) p q m = by-test (eqb b 64)
-    (λ e. elim (List·Memᴰ·cases-cons m) [
-      | inl h ↦ omega (arith, eqb-true b 64 e)
-      | inr k ↦ no-slash bs (rw (at-here b bs e) at q) k
-    ])
-    (λ e. let h = and-true (nodeChar b) (every nodeChar (beforeAt bs)) (rw (at-past b bs e) at p) in
-    elim (List·Memᴰ·cases-cons m) [
-      | inl g ↦ never (nodeChar 47) (rw g (h .0)) slash-char
-      | inr k ↦ name-slash bs (h .1) (rw (at-past b bs e) at q) k
-    ])
+  -- is in no name of such characters around an @
+  name-lacks : (s : Bytes) → every nodeChar (beforeAt s) ≡ true → every nodeChar (afterAt s) ≡ true → x ∈ s → ⊥
+  unfolding every
+  name-lacks [] p q m = List·Memᴰ·not-nil m
+  name-lacks (b ∷ bs) p q m = by-test (eqb b 64)
+      (λ e. elim (List·Memᴰ·cases-cons m) [
+        | inl h ↦ other (h ∙ eqb-true b 64 e)
+        | inr k ↦ part-lacks bs (rw (at-here b bs e) at q) k
+      ])
+      (λ e. let h = and-true (nodeChar b) (every nodeChar (beforeAt bs)) (rw (at-past b bs e) at p) in
+      elim (List·Memᴰ·cases-cons m) [
+        | inl g ↦ never (nodeChar x) (rw g (h .0)) foreign
+        | inr k ↦ name-lacks bs (h .1) (rw (at-past b bs e) at q) k
+      ])
 
 pub reads-named : (s : Bytes) → nodeNameReads s ≡ true → s ≡ [] → ⊥
 unfolding nodeNameReads
@@ -57,17 +55,44 @@ reads-named s h e =
     let k = and-true (not (eqb (length s) 0)) (nodeNameValid s) h in
     eqb-false (length s) 0 (not-true (eqb (length s) 0) (k .0)) (ap length e)
 
-pub reads-plain : (s : Bytes) → nodeNameReads s ≡ true → 47 ∈ s → ⊥
+reads-parts : (s : Bytes) → nodeNameReads s ≡ true → (every nodeChar (beforeAt s) ≡ true) × (every nodeChar (afterAt s) ≡ true)
 unfolding nodeNameReads nodeNameValid
-reads-plain s h m =
+reads-parts s h =
     let k = and-true (not (eqb (length s) 0)) (nodeNameValid s) h in
-    elim (or-cases (eqb (length s) 0) (within 1 nodeNameCeiling (length (beforeAt s)) && every nodeChar (beforeAt s) && every nodeChar (afterAt s)) (k .1)) [
-      | inl e ↦ eqb-false (length s) 0 (not-true (eqb (length s) 0) (k .0)) (eqb-true (length s) 0 e)
+    elim (or-cases (eqb (length s) 0) (within 1 nodeNameCeiling (length (beforeAt s)) && every nodeChar (beforeAt s) && every nodeChar (afterAt s))
+    (k .1)) [
+      | inl e ↦ absurd (eqb-false (length s) 0 (not-true (eqb (length s) 0) (k .0)) (eqb-true (length s) 0 e))
       | inr e ↦
           let a = and-true (within 1 nodeNameCeiling (length (beforeAt s)) && every nodeChar (beforeAt s)) (every nodeChar (afterAt s)) e in
           let b = and-true (within 1 nodeNameCeiling (length (beforeAt s))) (every nodeChar (beforeAt s)) (a .0) in
-          name-slash s (b .1) (a .1) m
+          (b .1, a .1)
     ]
+
+slash-char : nodeChar 47 ≡ false
+unfolding nodeChar oneOf
+slash-char = refl
+
+nul-char : nodeChar 0 ≡ false
+unfolding nodeChar oneOf
+nul-char = refl
+
+-- a name that reads has no slash
+pub reads-plain : (s : Bytes) → nodeNameReads s ≡ true → 47 ∈ s → ⊥
+reads-plain s h m = let p = reads-parts s h in name-lacks 47 slash-char (λ (e : 47 ≡ 64). omega arith) s (p .0) (p .1) m
+
+-- nor a NUL
+pub reads-nul : (s : Bytes) → nodeNameReads s ≡ true → 0 ∈ s → ⊥
+reads-nul s h m = let p = reads-parts s h in name-lacks 0 nul-char (λ (e : 0 ≡ 64). omega arith) s (p .0) (p .1) m
+
+nul-property : propertyChar 0 ≡ false
+unfolding propertyChar nodeChar oneOf
+nul-property = refl
+
+pub property-nul : (s : Bytes) → propertyNameReads s ≡ true → 0 ∈ s → ⊥
+unfolding propertyNameReads propertyNameValid
+property-nul s h m =
+    let k = and-true (within 1 propertyNameCeiling (length s)) (every propertyChar s) h in
+    never (propertyChar 0) (every-mem propertyChar m (k .1)) nul-property
 
 -- ---- steps
 
@@ -123,5 +148,6 @@ module _ (rest : Walk → Verdict) (place : ℕ) where
   unfolding holding
   holding-passes [] count ended reads h = gives-refuses tt 6 place h
   holding-passes (i ∷ is) count true reads h = gives-refuses tt 6 place h
-  holding-passes (i ∷ is) count false true h = record { inside = λ (e : i ∷ is ≡ []). let z : _≡_ {A = ℕ} 0 1 = cc in omega arith; first = refl; name = refl; on = h }
+  holding-passes (i ∷ is) count false true h =
+      record { inside = λ (e : i ∷ is ≡ []). let z : _≡_ {A = ℕ} 0 1 = cc in omega arith; first = refl; name = refl; on = h }
   holding-passes (i ∷ is) count false false h = gives-refuses tt 7 place h

@@ -1,21 +1,20 @@
 -- The laws of the sieve, of events that pass the shape: what it leaves passes too, and has exactly the kept nodes, in order, with all
 -- their properties; a kept node's parent is its old parent's new number.
-use mathlib.Core.Path.{_≡_, refl, sym, ap, ap₂, _∙_, subst}
-use mathlib.Core.Logic.{_⊎_, inl, inr}
-use mathlib.Core.Bool.{Bool, true, false, not, _&&_, _||_}
-use mathlib.Core.List.{List, [], _∷_, map, List·Memᴰ·head, List·Memᴰ·tail, List·Memᴰ·not-nil, List·Memᴰ·cases-cons}
+use mathlib.Core.Path.{_≡_, refl, ap, _∙_}
+use mathlib.Core.Logic.{inl, inr}
+use mathlib.Core.Bool.{Bool, true, false}
+use mathlib.Core.List.{List, [], _∷_, map, List·Memᴰ·tail, List·Memᴰ·cases-cons}
 use Prim.Native.Nat.{ℕ, zero, suc, _+_, _≤_, _<_}
 use native.Mathlib.Omega.{arith}
 use native.Mathlib.Nat.{add-zero}
-use lib.ListN.{length, length-map}
-use lib.Dec.{eqb}
+use lib.ListN.{length}
 use Rattle.rules.specs.Ceilings.{nodeCeiling, openCeiling}
 use Rattle.rules.specs.Names.{nodeNameReads}
 use Rattle.rules.specs.Octets.{Bytes}
 use Rattle.rules.specs.Lists.{keep}
-use Rattle.rules.specs.Events.{Property, Event, opens, has, closes}
-use Rattle.rules.specs.Tree.{Node, Tree, node, propsOf, top, rest, nodesFrom, nodesOf, numbersFrom}
-use Rattle.rules.specs.Copy.{when, sieve}
+use Rattle.rules.specs.Events.{Property, Event, opens}
+use Rattle.rules.specs.Tree.{Node, Tree, node, propsOf, top, nodesFrom}
+use Rattle.rules.specs.Copy.{sieve}
 use Rattle.rules.specs.Listing.{_∈_}
 use Rattle.rules.specs.Laws.Tests.{by-test, by-le, never}
 use Rattle.rules.specs.Laws.Lists.{keep-yes, keep-no}
@@ -191,8 +190,10 @@ module _ (k : ℕ → Bool) where
 
   opened-picked : (stack : List ℕ) (n place : ℕ) (name : Bytes) (es : List Event) → Nested false (n ∷ stack) (suc n) es
       → Upward n (nodesFrom stack n (opens place name ∷ es))
-      → Picked k (suc n) (nodesFrom (map (rank k) (keep k (n ∷ stack))) (rank k (suc n)) (sieve k (n ∷ stack) (suc n) es)) (nodesFrom (n ∷ stack) (suc n) es)
-      → Picked k n (nodesFrom (map (rank k) (keep k stack)) (rank k n) (sieve k stack n (opens place name ∷ es))) (nodesFrom stack n (opens place name ∷ es))
+      → Picked k (suc n) (nodesFrom (map (rank k) (keep k (n ∷ stack))) (rank k (suc n)) (sieve k (n ∷ stack) (suc n) es))
+      (nodesFrom (n ∷ stack) (suc n) es)
+      → Picked k n (nodesFrom (map (rank k) (keep k stack)) (rank k n) (sieve k stack n (opens place name ∷ es)))
+      (nodesFrom stack n (opens place name ∷ es))
   unfolding sieve nodesFrom
   opened-picked stack n place name es t up ih = by-test (k n)
       (λ y. let u : k (top stack) ≡ true = up 0 (omega arith) (rw add-zero y) in

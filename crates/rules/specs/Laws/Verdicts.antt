@@ -1,10 +1,10 @@
 -- The laws of verdicts: what it says that judgements one after the other pass.
-use mathlib.Core.Path.{_≡_, refl, sym}
+use mathlib.Core.Path.{_≡_, refl}
 use mathlib.Core.Bool.{Bool, true, false}
-use mathlib.Core.List.{List, [], _∷_}
+use mathlib.Core.List.{[], _∷_}
 use Prim.Native.Nat.{ℕ}
 use native.Mathlib.Omega.{arith}
-use Rattle.rules.specs.Outcome.{Outcome, gives, refuses, Verdict, passes, _then_, Test, first}
+use Rattle.rules.specs.Outcome.{Outcome, gives, refuses, Verdict, passes, _then_, first}
 
 pub gives-refuses : {X A : Type 0} (a : A) (number place : ℕ) → _≡_ {A = Outcome A} (refuses number place) (gives a) → X
 gives-refuses a number place e = let z : _≡_ {A = ℕ} 0 1 = cc in absurd (omega arith)

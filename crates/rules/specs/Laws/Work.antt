@@ -1,5 +1,5 @@
 -- The laws of the worklist: it finds exactly what is reached from its starts, each once.
-use mathlib.Core.Path.{_≡_, refl}
+use mathlib.Core.Path.{refl}
 use mathlib.Core.Logic.{_⊎_, inl, inr, _↔_}
 use mathlib.Core.List.{List, [], _∷_, _++_, List·Memᴰ·head, List·Memᴰ·tail, List·Memᴰ·not-nil, List·Memᴰ·cases-cons, Memᴰ·append-left, Memᴰ·append-right, List·Memᴰ·append-cases, reverse}
 use Prim.Native.Nat.{ℕ, zero, suc, _+_, _≤_, _<_}
@@ -63,7 +63,8 @@ module _ (of : ℕ → List ℕ) (count : ℕ) (range : (n m : ℕ) → m ∈ of
 
       old : (x : ℕ) → (x ∈ n ∷ stack) ⊎ ((m : ℕ) → m ∈ of x → m ∈ noted)
           → (x ∈ reverse new ++ stack) ⊎ ((m : ℕ) → m ∈ of x → m ∈ new ++ noted)
-      old x (inl k) = elim (List·Memᴰ·cases-cons k) [ inl e ↦ inr (λ m j. seen m (f .all m (rw e at j))) | inr j ↦ inl (Memᴰ·append-right (reverse new) j) ]
+      old x (inl k) =
+          elim (List·Memᴰ·cases-cons k) [ inl e ↦ inr (λ m j. seen m (f .all m (rw e at j))) | inr j ↦ inl (Memᴰ·append-right (reverse new) j) ]
       old x (inr k) = inr (λ m j. Memᴰ·append-right new (k m j))
 
       done : (x : ℕ) → x ∈ new ++ noted → (x ∈ reverse new ++ stack) ⊎ ((m : ℕ) → m ∈ of x → m ∈ new ++ noted)
@@ -91,7 +92,8 @@ module _ (of : ℕ → List ℕ) (count : ℕ) (range : (n m : ℕ) → m ∈ of
   unfolding work
   work-closed zero stack noted i x m h j = empty-closed stack noted zero i (spent stack noted i) x m h j
   work-closed (suc fuel) [] noted i x m h j = empty-closed [] noted (suc fuel) i (λ z k. List·Memᴰ·not-nil k) x m h j
-  work-closed (suc fuel) (n ∷ stack) noted i x m h j = right (work-closed fuel (reverse new ++ stack) (new ++ noted) (inv-step fuel n stack noted i) x m (left h) j)
+  work-closed (suc fuel) (n ∷ stack) noted i x m h j =
+      right (work-closed fuel (reverse new ++ stack) (new ++ noted) (inv-step fuel n stack noted i) x m (left h) j)
     where
       new : List ℕ
       new = fresh noted (of n)
@@ -120,7 +122,11 @@ module _ (of : ℕ → List ℕ) (count : ℕ) (range : (n m : ℕ) → m ∈ of
     pub found-iff : (x : ℕ) → (x ∈ start ++ found of count start) ↔ Reach of start x
     unfolding found
     found-iff x = (
-      λ m. elim (List·Memᴰ·append-cases start m) [ inl k ↦ started k | inr k ↦ work-sound of (Reach of start) (λ n z r j. target r j) count (reverse start) start (λ z j. started (of-reverse start j)) x k ],
+      λ m. elim (List·Memᴰ·append-cases start m) [
+        | inl k ↦ started k
+        | inr k ↦
+            work-sound of (Reach of start) (λ n z r j. target r j) count (reverse start) start (λ z j. started (of-reverse start j)) x k
+      ],
       λ r. elim (found-all r) [ inl k ↦ Memᴰ·append-left (found of count start) k | inr k ↦ Memᴰ·append-right start k ],
     )
 

@@ -1,22 +1,21 @@
 -- Properties, nodes, trees and events that are the same but for values that are not open: what the reader judges of them, and what
 -- it takes from them, is the same.
 use mathlib.Core.Path.{_≡_, refl, sym, ap, ap₂, _∙_, subst}
-use mathlib.Core.Bool.{Bool, true, false, not, _&&_, _||_}
+use mathlib.Core.Bool.{Bool, true, false}
 use mathlib.Core.Option.{Option, none, some, Option·map}
-use mathlib.Core.List.{List, [], _∷_, _++_, map}
+use mathlib.Core.List.{List, [], _∷_, map}
 use Prim.Native.Nat.{ℕ, zero, suc, _+_}
 use native.Mathlib.Omega.{arith}
-use lib.ListN.{length, getD}
-use lib.Dec.{eqb}
+use lib.ListN.{length}
 use Rattle.rules.specs.Octets.{Bytes, if_then_else_, wordAt, same}
-use Rattle.rules.specs.Lists.{oneOf}
-use Rattle.rules.specs.Outcome.{Verdict, gives, refuses, passes, _then_, first, Test}
+use Rattle.rules.specs.Outcome.{_then_}
 use Rattle.rules.specs.Events.{Property, Event, opens, has, closes}
-use Rattle.rules.specs.Tree.{Node, Tree, node, nowhere, propsOf, top, rest, nodesFrom, nodesOf, valueOf, sibling, named, doubledProps, doubledFrom, doubledJudged, among, phandleNames, cellsNames, isPhandle, readName, differs, wordsFrom, wordsJudged, phandleProp, phandleOf, sharedFrom, sharedJudged}
-use Rattle.rules.specs.Copy.{when, sieve}
-use Rattle.rules.specs.Laws.Tests.{by-test, never, or-false, or-left}
+use Rattle.rules.specs.Tree.{Node, Tree, node, propsOf, top, rest, nodesFrom, nodesOf, valueOf, sibling, named, doubledProps, doubledFrom, doubledJudged, among, cellsNames, isPhandle, readName, wordsFrom, wordsJudged, phandleProp, phandleOf, sharedFrom, sharedJudged}
+use Rattle.rules.specs.Copy.{sieve}
+use Rattle.rules.specs.Laws.Tests.{by-test, or-false, or-left}
 use Rattle.rules.specs.Laws.Octets.{same-eq}
 use Rattle.rules.specs.Laws.References.{by-option}
+use Rattle.rules.specs.Laws.Passes.{shared-none, shared-some}
 
 -- ---- properties
 
@@ -101,7 +100,8 @@ named-same n m e ended = refl
 named-same n m e (paired a more) = rw (e, a .name, named-same m m refl more)
 
 -- 10 of a node's properties
-pub doubledProps-same : {O : Bytes → Type 0} {old new ps qs : List Property} → Alike O old new → Alike O ps qs → doubledProps old ps ≡ doubledProps new qs
+pub doubledProps-same : {O : Bytes → Type 0} {old new ps qs : List Property} → Alike O old new → Alike O ps qs
+    → doubledProps old ps ≡ doubledProps new qs
 unfolding doubledProps
 doubledProps-same seen ended = refl
 doubledProps-same seen (paired {p = p} {q = q} a more) =
@@ -140,17 +140,6 @@ unfolding wordsJudged
 wordsJudged-same no-twins = refl
 wordsJudged-same (twins a more) = rw (words-same none (a .props), wordsJudged-same more)
 
-shared-none : (seen : List ℕ) (n : Node) (ns : List Node) → phandleProp (n .props) ≡ none → sharedFrom seen (n ∷ ns) ≡ sharedFrom seen ns
-unfolding sharedFrom
-shared-none seen n ns e = rw (e, sharedFrom)
-
-shared-some : (seen : List ℕ) (n : Node) (ns : List Node) (p : Property) → phandleProp (n .props) ≡ some p
-    → sharedFrom seen (n ∷ ns)
-    ≡ (first (record { fails = oneOf (wordAt (p .value) 0) seen; number = 12; place = p .place } ∷ [])
-    then sharedFrom (wordAt (p .value) 0 ∷ seen) ns)
-unfolding sharedFrom
-shared-some seen n ns p e = rw (e, sharedFrom)
-
 sharedFrom-same : (seen : List ℕ) {t u : Tree} → Twins t u → sharedFrom seen t ≡ sharedFrom seen u
 unfolding sharedFrom
 sharedFrom-same seen no-twins = refl
@@ -167,7 +156,8 @@ shared-same a = sharedFrom-same [] a
 pub phandles-same : {t u : Tree} → Twins t u → map phandleOf t ≡ map phandleOf u
 phandles-same no-twins = refl
 phandles-same (twins a more) =
-    ap₂ (λ (o : Option ℕ) (l : List (Option ℕ)). o ∷ l) (ap (Option·map (λ (p : Property). wordAt (p .value) 0)) (phandleProp-same (a .props))) (phandles-same more)
+    ap₂ (λ (o : Option ℕ) (l : List (Option ℕ)). o ∷ l) (ap (Option·map (λ (p : Property). wordAt (p .value) 0)) (phandleProp-same (a .props)))
+    (phandles-same more)
 
 -- ---- trees: what is open depends on the node
 

@@ -1,25 +1,22 @@
 -- Two trees that are alike but for withheld values: what is reached, listed and copied, and each judgement of a request, is the same.
 use mathlib.Core.Path.{_≡_, refl, sym, ap, ap₂, _∙_, fun-ext}
-use mathlib.Core.Logic.{_⊎_, inl, inr, _↔_}
-use mathlib.Core.Bool.{Bool, true, false, not, _&&_, _||_}
-use mathlib.Core.Option.{Option, none, some, Option·map}
-use mathlib.Core.List.{List, [], _∷_, _++_, map, reverse, List·Memᴰ·head, List·Memᴰ·tail, List·Memᴰ·not-nil}
-use Prim.Native.Nat.{ℕ, zero, suc, _+_, _≤_, _<_}
-use native.Mathlib.Omega.{arith}
+use mathlib.Core.Bool.{Bool, true, false, not, _&&_}
+use mathlib.Core.Option.{Option, none}
+use mathlib.Core.List.{List, [], _∷_, _++_, map, reverse, List·Memᴰ·head}
+use Prim.Native.Nat.{ℕ, zero, suc, _<_}
 use lib.ListN.{length}
 use lib.Dec.{eqb}
 use borrow.Author.Tests.{not-true}
-use Rattle.rules.specs.Octets.{Bytes, ascii, same, wordAt}
+use Rattle.rules.specs.Octets.{Bytes, ascii, same}
 use Rattle.rules.specs.Lists.{oneOf, any, keep, fresh}
-use Rattle.rules.specs.Outcome.{Verdict, passes, _then_, first, Test}
 use Rattle.rules.specs.Blob.{missing}
 use Rattle.rules.specs.Events.{Property}
-use Rattle.rules.specs.Tree.{Node, Tree, node, valueOf, phandleOf, readName, climb, below, spell, path, Frame, frame, numbers, numbersFrom}
-use Rattle.rules.specs.References.{Rules, placeOf, lookup, wordNamed, cellCount, scan, referencesOf, target, targetsIn, targets}
-use Rattle.rules.specs.Listing.{_∈_, Reached, configured, under, referenced, givenNodes, starts, work, found, reachedList, within, listed}
-use Rattle.rules.specs.Copy.{Asked, cpuChild, registerOf, regOf, isId, stranger, null, picked, copied}
+use Rattle.rules.specs.Tree.{Tree, node, readName, climb, below, spell, path, Frame, frame, numbers, numbersFrom}
+use Rattle.rules.specs.References.{Rules, placeOf, lookup, wordNamed, cellCount, target, targetsIn, targets}
+use Rattle.rules.specs.Listing.{_∈_, Reached, referenced, givenNodes, starts, work, found, reachedList, within, listed}
+use Rattle.rules.specs.Copy.{Asked, cpuChild, registerOf, regOf, isId, stranger, picked, copied}
 use Rattle.rules.specs.Derivation.{cpusFrom, cpusJudged, met, idsFrom}
-use Rattle.rules.specs.Withheld.{hidden, inValue, hiddenIn}
+use Rattle.rules.specs.Withheld.{hidden}
 use Rattle.rules.specs.Demands.{CellsRead}
 use Rattle.rules.specs.Laws.Tests.{by-test, never, and-true, true-and, not-passed}
 use Rattle.rules.specs.Laws.Octets.{same-refl}
@@ -28,7 +25,7 @@ use Rattle.rules.specs.Laws.References.{by-option, references-yes, refer
 use Rattle.rules.specs.Laws.Work.{stack-step}
 use Rattle.rules.specs.Laws.Paths.{Formed}
 use Rattle.rules.specs.Laws.Listing.{given-reached, starts-of, reachedList-iff}
-use Rattle.rules.specs.Laws.Secrecy.Alike.{AlikeProp, Alike, ended, paired, AlikeNode, AlikeTree, Twins, Public, alike-value, phandles-same}
+use Rattle.rules.specs.Laws.Secrecy.Alike.{Alike, ended, paired, AlikeTree, alike-value, phandles-same}
 use Rattle.rules.specs.Laws.Secrecy.Tokens.{Open}
 
 -- ---- the references of a list of properties
@@ -132,7 +129,8 @@ module _ (r : Rules) (q : Asked) (t : Tree) where
 
   pub open-listed : (i : ℕ) (n : Bytes) → r .refers n ≡ true → i ∈ reachedList r t (q .conf) → hidden r q t i n ≡ false
   open-listed i n e m = open-unless i n
-      (λ s. never (r .refers n && oneOf i (reachedList r t (q .conf))) (true-and (r .refers n) (oneOf i (reachedList r t (q .conf))) e (mem-oneOf m)) (s .unreached))
+      (λ s. never (r .refers n && oneOf i (reachedList r t (q .conf)))
+      (true-and (r .refers n) (oneOf i (reachedList r t (q .conf))) e (mem-oneOf m)) (s .unreached))
 
 -- ---- one answer
 
@@ -156,7 +154,8 @@ module _ (r : Rules) (cells : CellsRead r) (q : Asked) (t u : Tree) (w : Formed 
   targets-same : (i : ℕ) → Reached r t (q .conf) i → targets r t i ≡ targets r u i
   unfolding targets
   targets-same i h =
-      alike-targets r t u (λ n e. open-listed r q t i n e (reachedList-iff r t w (q .conf) distinct small i .1 h)) lookup-same cells-same (g .each i .props)
+      alike-targets r t u (λ n e. open-listed r q t i n e (reachedList-iff r t w (q .conf) distinct small i .1 h)) lookup-same cells-same
+      (g .each i .props)
 
   starts-reached : (x : ℕ) → x ∈ starts (frame t) (q .conf) → Reached r t (q .conf) x
   starts-reached x m = given-reached r t w (q .conf) distinct small x (starts-of r t w (q .conf) distinct small x m)
@@ -218,7 +217,8 @@ module _ (r : Rules) (cells : CellsRead r) (q : Asked) (t u : Tree) (w : Formed 
   met-same : (id : ℕ) → met t id ≡ met u id
   unfolding met
   met-same id =
-      any-same (λ (i : ℕ). cpuChild (frame t) i && isId (id ∷ []) (regOf (node t i))) (λ (i : ℕ). cpuChild (frame u) i && isId (id ∷ []) (regOf (node u i)))
+      any-same (λ (i : ℕ). cpuChild (frame t) i && isId (id ∷ []) (regOf (node t i)))
+      (λ (i : ℕ). cpuChild (frame u) i && isId (id ∷ []) (regOf (node u i)))
       (numbersFrom 0 (length t)) (λ i m. cpu-test (isId (id ∷ [])) i)
       ∙ ap (λ (n : ℕ). any (λ (i : ℕ). cpuChild (frame u) i && isId (id ∷ []) (regOf (node u i))) (numbersFrom 0 n)) (g .size)
 

@@ -1,95 +1,23 @@
 -- Two blobs that agree but in hidden value bytes, of which the first has a header that passes: the header is judged alike, the shape
 -- too, and the events are the same but for what is hidden.
-use mathlib.Core.Path.{_≡_, refl, sym, ap, ap₂, _∙_, subst}
+use mathlib.Core.Path.{_≡_, refl, sym, _∙_}
 use mathlib.Core.Logic.{_⊎_, inl, inr}
-use mathlib.Core.Bool.{Bool, true, false, not, _&&_, _||_}
-use mathlib.Core.Option.{Option, none, some, Option·map}
-use mathlib.Core.List.{List, [], _∷_}
-use Prim.Native.Nat.{ℕ, zero, suc, _+_, _%_, _≤_, _<_, min}
+use mathlib.Core.Bool.{Bool, _&&_}
+use mathlib.Core.List.{[]}
+use Prim.Native.Nat.{ℕ, zero, suc, _+_, _≤_, _<_, min}
 use native.Mathlib.Omega.{arith}
-use lib.ListN.{length, getD, take, drop, length-take, length-drop, List·getD-eq-default}
+use lib.ListN.{length, getD, drop, length-take, length-drop, List·getD-eq-default}
 use lib.Seq.{getD-take, getD-drop}
 use lib.Dec.{eqb, ltb}
 use borrow.Author.Tests.{ltb-false}
-use Rattle.rules.specs.Ceilings.{blobCeiling}
 use Rattle.rules.specs.Octets.{Bytes, wordAt, longAt, part}
-use Rattle.rules.specs.Outcome.{Verdict, passes, Test, first}
-use Rattle.rules.specs.Reservations.{Entry}
-use Rattle.rules.specs.Blob.{Header, headerIn, entriesFrom, entriesIn, missing, misplaced, headerJudged, Block, blockIn}
-use Rattle.rules.specs.Events.{Event, shapeJudged, eventsIn}
+use Rattle.rules.specs.Blob.{headerIn, entriesFrom, entriesIn, misplaced, headerJudged, blockIn}
+use Rattle.rules.specs.Events.{shapeJudged}
 use Rattle.rules.specs.Reader.{eventsRead}
-use Rattle.rules.specs.Laws.Tests.{by-test, by-le, never, or-false}
-use Rattle.rules.specs.Laws.Verdicts.{gives-refuses}
+use Rattle.rules.specs.Laws.Tests.{by-test, by-le}
+use Rattle.rules.specs.Laws.Header.{entries-cut, entries-last, entries-more, Laid}
 use Rattle.rules.specs.Laws.Secrecy.Alike.{Veiled}
 use Rattle.rules.specs.Laws.Secrecy.Tokens.{Clear, word-same, part-same, Hidden, Open, behind-all, shape-kept, events-kept}
-
--- ---- what a header that passes says
-
--- the third and the last of five tests
-five-pass : (a b c d e : Bool)
-    → first
-    (record { fails = a; number = 1; place = 0 }
-    ∷ record { fails = b; number = 2; place = 0 }
-    ∷ record { fails = c; number = 3; place = 0 }
-    ∷ record { fails = d; number = 4; place = 0 }
-    ∷ record { fails = e; number = 5; place = 0 }
-    ∷ []) ≡ passes
-    → (c ≡ false) × (e ≡ false)
-five-pass true b c d e h = gives-refuses tt 1 0 h
-five-pass false true c d e h = gives-refuses tt 2 0 h
-five-pass false false true d e h = gives-refuses tt 3 0 h
-five-pass false false false true e h = gives-refuses tt 4 0 h
-five-pass false false false false true h = gives-refuses tt 5 0 h
-five-pass false false false false false h = (refl, refl)
-
-pub record Laid (b : Bytes) : Type 0 where
-  pub reservations : 40 ≤ headerIn b .reservations
-  pub entries : headerIn b .reservations + 16 ≤ headerIn b .structure
-  pub strings : headerIn b .structure + headerIn b .structureSize ≤ headerIn b .strings
-  pub total : headerIn b .strings + headerIn b .stringsSize ≤ headerIn b .total
-  pub lent : headerIn b .total ≤ length b
-
-module _ (b : Bytes) (fuel at limit : ℕ) where
-  entries-cut : ltb limit (at + 16) ≡ true → entriesFrom (suc fuel) b at limit ≡ none
-  unfolding entriesFrom
-  entries-cut e = rw (e, entriesFrom)
-
-  entries-last : ltb limit (at + 16) ≡ false → (eqb (longAt b at) 0 && eqb (longAt b (at + 8)) 0) ≡ true → entriesFrom (suc fuel) b at limit ≡ some []
-  unfolding entriesFrom
-  entries-last e f = rw (e, f, entriesFrom)
-
-  entries-more : ltb limit (at + 16) ≡ false → (eqb (longAt b at) 0 && eqb (longAt b (at + 8)) 0) ≡ false
-      → entriesFrom (suc fuel) b at limit
-      ≡ Option·map (λ (es : List Entry). record { address = longAt b at; size = longAt b (at + 8) } ∷ es) (entriesFrom fuel b (at + 16) limit)
-  unfolding entriesFrom
-  entries-more e f = rw (e, f, entriesFrom)
-
-  entries-fit : missing (entriesFrom (suc fuel) b at limit) ≡ false → at + 16 ≤ limit
-  entries-fit h = by-test (ltb limit (at + 16))
-      (λ e. never true refl (rw (entries-cut e) at h))
-      (λ e. ltb-false limit (at + 16) e)
-
-pub header-laid : (b : Bytes) → headerJudged b ≡ passes → Laid b
-unfolding headerJudged misplaced entriesIn
-header-laid b h =
-    let v : Header = headerIn b in
-    let large : Bool = ltb (v .total) 40 || ltb (length b) (v .total) || ltb blobCeiling (v .total) in
-    let f = five-pass (ltb (length b) 40) (not (eqb (v .magic) 0xd00dfeed)) large (not (eqb (v .version) 17) || not (eqb (v .compatible) 16)) (misplaced b) h in
-    let m₁ = or-false _ (ltb (v .total) (v .strings + v .stringsSize)) (f .1) in
-    let m₂ = or-false _ (ltb (v .strings) (v .structure + v .structureSize)) (m₁ .0) in
-    let m₃ = or-false _ (missing (entriesIn b)) (m₂ .0) in
-    let m₄ = or-false _ (not (eqb (v .structureSize % 4) 0)) (m₃ .0) in
-    let m₅ = or-false _ (not (eqb (v .structure % 4) 0)) (m₄ .0) in
-    let m₆ = or-false _ (not (eqb (v .reservations % 8) 0)) (m₅ .0) in
-    let n₁ = or-false (ltb (v .total) 40 || ltb (length b) (v .total)) (ltb blobCeiling (v .total)) (f .0) in
-    let n₂ = or-false (ltb (v .total) 40) (ltb (length b) (v .total)) (n₁ .0) in
-    record {
-      reservations = ltb-false (v .reservations) 40 (m₆ .0);
-      entries = entries-fit b (length b) (v .reservations) (v .structure) (m₃ .1);
-      strings = ltb-false (v .strings) (v .structure + v .structureSize) (m₂ .1);
-      total = ltb-false (v .total) (v .strings + v .stringsSize) (m₁ .1);
-      lent = ltb-false (length b) (v .total) (n₂ .1);
-    }
 
 -- ---- the same bytes
 
@@ -119,7 +47,8 @@ module _ (S : ℕ → Bytes → Bool) (host other : Bytes) (size : length host �
   strings = part host (headerIn host .strings) (headerIn host .stringsSize)
 
   -- what is hidden stands in the structure block
-  hidden-inside : (x : ℕ) → Hidden S x [] 0 (eventsRead host) → (headerIn host .structure ≤ x) × (x < headerIn host .structure + headerIn host .structureSize)
+  hidden-inside : (x : ℕ) → Hidden S x [] 0 (eventsRead host)
+      → (headerIn host .structure ≤ x) × (x < headerIn host .structure + headerIn host .structureSize)
   unfolding eventsRead blockIn structure strings
   hidden-inside x h =
       let b = behind-all S (headerIn host .structure) strings structure x h in
@@ -190,7 +119,11 @@ module _ (S : ℕ → Bytes → Bool) (host other : Bytes) (size : length host �
   block-same : blockIn other ≡ record { place = headerIn host .structure; structure = changed; strings = strings }
   unfolding blockIn changed strings
   block-same =
-      rw (← header-same, part-same host other (headerIn host .strings) (headerIn host .stringsSize) size (clear-behind (headerIn host .strings + headerIn host .stringsSize)))
+      rw (
+        ← header-same,
+        part-same host other (headerIn host .strings) (headerIn host .stringsSize) size
+            (clear-behind (headerIn host .strings + headerIn host .stringsSize)),
+      )
 
   -- 6 to 9 judge alike
   pub shape-same : shapeJudged (blockIn host) ≡ shapeJudged (blockIn other)

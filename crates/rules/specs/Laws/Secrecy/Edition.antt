@@ -1,14 +1,14 @@
 -- Edition 1: the cells names of its rules are among those that refusal 11 reads, so that nothing leaks under it.
-use mathlib.Core.Path.{_≡_, refl, sym, ap, subst, _∙_}
+use mathlib.Core.Path.{_≡_, refl, sym, _∙_}
 use mathlib.Core.Bool.{Bool, true, false, _&&_}
 use mathlib.Core.Option.{Option, none, some}
 use mathlib.Core.List.{List, [], _∷_}
 use Prim.Native.Nat.{ℕ}
 use Prim.Native.String.{String}
 use native.Mathlib.Omega.{arith}
-use Rattle.rules.specs.Octets.{Bytes, if_then_else_, ascii, same}
+use Rattle.rules.specs.Octets.{Bytes, ascii, same}
 use Rattle.rules.specs.Tree.{among, phandleNames, cellsNames, readName}
-use Rattle.rules.specs.References.{Rules, Row, isGpio, cellRows, cellsIn, edition1}
+use Rattle.rules.specs.References.{Row, isGpio, cellRows, cellsIn, edition1}
 use Rattle.rules.specs.Demands.{CellsRead, NothingLeaks}
 use Rattle.rules.specs.Laws.Tests.{by-test, and-true}
 use Rattle.rules.specs.Laws.Secrecy.Leaks.{nothing-leaks}

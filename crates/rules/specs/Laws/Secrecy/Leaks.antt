@@ -2,33 +2,34 @@
 -- the other blob but that it agrees; it is accepted too, and the same bytes of it are withheld.
 use mathlib.Core.Path.{_≡_, refl, sym, ap, ap₂, _∙_, subst}
 use mathlib.Core.Logic.{_⊎_, inl, inr}
-use mathlib.Core.Bool.{Bool, true, false, not, _&&_, _||_}
+use mathlib.Core.Bool.{Bool, true, _&&_}
 use mathlib.Core.List.{List, [], _∷_, map}
-use Prim.Native.Nat.{ℕ, zero, suc, _+_, _≤_, _<_}
+use Prim.Native.Nat.{ℕ, zero, suc, _+_}
 use native.Mathlib.Omega.{arith}
-use native.Mathlib.Nat.{add-zero}
 use lib.ListN.{length, getD}
-use Rattle.rules.specs.Octets.{Bytes, put}
+use Rattle.rules.specs.Ceilings.{programCeiling, workWords}
+use Rattle.rules.specs.Octets.{Bytes}
 use Rattle.rules.specs.Lists.{any}
-use Rattle.rules.specs.Outcome.{Outcome, gives, passes, settled, _then_}
-use Rattle.rules.specs.Blob.{blockIn}
+use Rattle.rules.specs.Outcome.{Outcome, gives, refuses, passes}
 use Rattle.rules.specs.Events.{Property, Event, opens, has, closes}
-use Rattle.rules.specs.Tree.{Node, Tree, node, path, propsOf, nodesFrom, nodesOf, top, Frame, frame, numbers, numbersFrom}
-use Rattle.rules.specs.Reader.{eventsRead, treeRead, blobJudged, spaceJudged}
+use Rattle.rules.specs.Tree.{Tree, node, path, propsOf, nodesFrom, nodesOf, top, Frame, frame, numbers, numbersFrom}
+use Rattle.rules.specs.Reader.{eventsRead, treeRead, blobJudged}
 use Rattle.rules.specs.References.{Rules}
-use Rattle.rules.specs.Listing.{_∈_, listed, pathsBytes}
+use Rattle.rules.specs.Listing.{listed, pathsBytes}
 use Rattle.rules.specs.Written.{blobOf}
 use Rattle.rules.specs.Copy.{Asked, copied, sieve, guestEvents, guestBytes}
-use Rattle.rules.specs.Derivation.{Request, asked, listsJudged, configuredJudged, cpusJudged, idsFrom, requestJudged, listedPaths, listOf, guestOf, Derived, roomJudged, derive, deriveList, deriveGuest}
+use Rattle.rules.specs.Derivation.{Request, Derived, asked, configuredJudged, cpusJudged, idsFrom, requestJudged, listedPaths, listOf, guestOf, derive, deriveList, deriveGuest}
+use Rattle.rules.specs.Program.{requestIn, hostJudged, programOutcome, printed, program}
 use Rattle.rules.specs.Withheld.{hidden, inValue, hiddenIn, withheld, Agree}
-use Rattle.rules.specs.Demands.{CellsRead, NothingLeaks, NothingLeaksAnywhere}
+use Rattle.rules.specs.Demands.{CellsRead, NothingLeaksAnywhere}
 use Rattle.rules.specs.Laws.Tests.{by-test, never, and-true, or-cases}
 use Rattle.rules.specs.Laws.Lists.{any-yes, any-same}
-use Rattle.rules.specs.Laws.Formed.{Accepted, accepted, accepting, read-formed, conf-distinct, conf-small}
-use Rattle.rules.specs.Laws.Secrecy.Alike.{AlikeProp, Alike, ended, paired, AlikeTree, Veiled, veiled-tree, sieve-same, doubled-same, wordsJudged-same, shared-same}
+use Rattle.rules.specs.Laws.Formed.{accepted, accepting, read-formed, conf-distinct, conf-small}
+use Rattle.rules.specs.Laws.Secrecy.Alike.{Alike, ended, paired, AlikeTree, Veiled, veiled-tree, sieve-same, doubled-same, wordsJudged-same, shared-same}
 use Rattle.rules.specs.Laws.Secrecy.Tokens.{Hidden, Open}
 use Rattle.rules.specs.Laws.Secrecy.Answers.{frame-same, open-read, open-copied, listed-same, copied-same, cpusJudged-same, idsFrom-same, hidden-same}
-use Rattle.rules.specs.Laws.Secrecy.Blob.{Laid, header-laid, headerJudged-same, shape-same, events-same}
+use Rattle.rules.specs.Laws.Header.{Laid, header-laid}
+use Rattle.rules.specs.Laws.Secrecy.Blob.{headerJudged-same, shape-same, events-same}
 
 -- ---- a withheld byte is a byte of a hidden value
 
@@ -117,8 +118,10 @@ module _ (r : Rules) (cells : CellsRead r) (host other : Bytes) (q : Request) (r
   request-same : requestJudged t q ≡ requestJudged u q
   unfolding requestJudged asked
   request-same =
-      let c : cpusJudged t (q .ids) ≡ cpusJudged u (q .ids) = cpusJudged-same r cells a t u (read-formed host read) (conf-distinct (frame t) q conf) (conf-small (frame t) q) trees in
-      let i : idsFrom t 0 (q .ids) ≡ idsFrom u 0 (q .ids) = idsFrom-same r cells a t u (read-formed host read) (conf-distinct (frame t) q conf) (conf-small (frame t) q) trees 0 (q .ids) in
+      let c : cpusJudged t (q .ids) ≡ cpusJudged u (q .ids) =
+      cpusJudged-same r cells a t u (read-formed host read) (conf-distinct (frame t) q conf) (conf-small (frame t) q) trees in
+      let i : idsFrom t 0 (q .ids) ≡ idsFrom u 0 (q .ids) =
+      idsFrom-same r cells a t u (read-formed host read) (conf-distinct (frame t) q conf) (conf-small (frame t) q) trees 0 (q .ids) in
       let f : configuredJudged (frame t) q ≡ configuredJudged (frame u) q = ap (λ (f : Frame). configuredJudged f q) same-frame in
       rw (f, c, i)
 
@@ -128,7 +131,7 @@ module _ (r : Rules) (cells : CellsRead r) (host other : Bytes) (q : Request) (r
   one-copy : copied r a t ≡ copied r a u
   one-copy = copied-same r cells a t u (read-formed host read) (conf-distinct (frame t) q conf) (conf-small (frame t) q) trees
 
-  paths-same : listedPaths r t q ≡ listedPaths r u q
+  pub paths-same : listedPaths r t q ≡ listedPaths r u q
   unfolding listedPaths
   paths-same =
       ap₂ (λ (f : Frame) (l : List ℕ). map (f .path) l) same-frame one-list
@@ -170,6 +173,11 @@ module _ (r : Rules) (cells : CellsRead r) (host other : Bytes) (q : Request) (r
   pub agree-back : Agree r q other host
   agree-back = record { size = sym (g .size); bytes = λ x e. sym (g .bytes x (withheld-same x ∙ e)) }
 
+printed-same : (r : Rules) (host other input : Bytes) → listedPaths r (treeRead host) (requestIn input) ≡ listedPaths r (treeRead other) (requestIn input)
+    → guestOf r host (requestIn input) ≡ guestOf r other (requestIn input) → (o : Outcome Derived) → printed r host input o ≡ printed r other input o
+printed-same r host other input e f (gives d) = rw (e, f)
+printed-same r host other input e f (refuses number place) = refl
+
 pub nothing-leaks : NothingLeaksAnywhere
 unfolding deriveList deriveGuest
 nothing-leaks r cells host other q words list guest read lists conf g = (
@@ -177,3 +185,15 @@ nothing-leaks r cells host other q words list guest read lists conf g = (
   rw (derive-same r cells host other q read conf g words (length list) (length guest), list-same r cells host other q read conf g),
   rw (derive-same r cells host other q read conf g words (length list) (length guest), guest-same r cells host other q read conf g),
 )
+
+-- nor does the program print or write anything else
+pub program-same : (r : Rules) → CellsRead r → (host other input : Bytes) → blobJudged host ≡ passes
+    → configuredJudged (frame (treeRead host)) (requestIn input) ≡ passes → Agree r (requestIn input) host other
+    → program r host input ≡ program r other input
+unfolding program programOutcome hostJudged
+program-same r cells host other input read conf g =
+    let q : Request = requestIn input in
+    let o : programOutcome r host input ≡ programOutcome r other input =
+    rw (g .size, derive-same r cells host other q read conf g workWords programCeiling programCeiling) in
+    printed-same r host other input (paths-same r cells host other q read conf g) (guest-same r cells host other q read conf g) (programOutcome r host input)
+    ∙ ap (printed r other input) o

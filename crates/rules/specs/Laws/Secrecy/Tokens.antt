@@ -1,29 +1,27 @@
 -- Two structure blocks that agree but in hidden value bytes: they have the same tokens, are judged alike, and say the same events but
 -- for those values.
-use mathlib.Core.Path.{_≡_, refl, sym, ap, ap₂, _∙_}
+use mathlib.Core.Path.{_≡_, refl, sym, ap, _∙_}
 use mathlib.Core.Logic.{_⊎_, inl, inr}
-use mathlib.Core.Bool.{Bool, true, false, _&&_}
+use mathlib.Core.Bool.{Bool, true, false}
 use mathlib.Core.List.{List, [], _∷_}
-use Prim.Native.Nat.{ℕ, zero, suc, _+_, _-_, _≤_, _<_, min}
+use Prim.Native.Nat.{ℕ, zero, suc, _+_, _≤_, _<_, min}
 use native.Mathlib.Omega.{arith}
-use native.Mathlib.Nat.{add-zero}
 use lib.ListN.{length, getD, take, drop, length-take, length-drop}
 use lib.Seq.{ext-getD, getD-take, getD-drop}
 use lib.Dec.{eqb, leb, ltb}
 use borrow.Author.Tests.{eqb-true, leb-true, ltb-true}
-use Rattle.rules.specs.Octets.{Bytes, if_then_else_, wordAt, nulIn, padded, part}
+use Rattle.rules.specs.Octets.{Bytes, wordAt, nulIn, padded, part}
 use Rattle.rules.specs.Outcome.{Verdict}
 use Rattle.rules.specs.Blob.{Block}
-use Rattle.rules.specs.Tokens.{Placed, whole, beginAt, propAt, tagged, tokenAt, following, tokensFrom, tokens}
-use Rattle.rules.specs.Events.{Walk, atStart, Step, stop, done, go, nodeNameAt, stringAt, propertyReads, opening, closing, holding, ending, onToken, after, judge, shapeJudged, Property, Event, opens, has, closes, saying, eventsOf, eventsIn}
+use Rattle.rules.specs.Tokens.{Placed, beginAt, propAt, tagged, tokenAt, following, tokensFrom, tokens}
+use Rattle.rules.specs.Events.{Walk, atStart, Step, stop, done, go, nodeNameAt, stringAt, propertyReads, opening, closing, holding, after, judge, shapeJudged, Property, Event, opens, has, closes, saying, eventsOf, eventsIn}
 use Rattle.rules.specs.Tree.{top, rest}
 use Rattle.rules.specs.Withheld.{inValue}
 use Rattle.rules.specs.declared.Token.{Token}
 use Rattle.rules.specs.declared.Token.the-variants.{Item, End, Cut}
-use Rattle.rules.specs.declared.Kind.{Kind}
 use Rattle.rules.specs.declared.Kind.the-variants.{Begin, EndNode, Prop, Nop}
 use Rattle.rules.specs.Laws.Tests.{by-test, never, and-true}
-use Rattle.rules.specs.Laws.Secrecy.Alike.{AlikeProp, Veiled, veiled, both-open, both-have, both-close}
+use Rattle.rules.specs.Laws.Secrecy.Alike.{Veiled, veiled, both-open, both-have, both-close}
 
 -- ---- what a token reads
 
@@ -98,7 +96,12 @@ Clear s c i j = (x : ℕ) → i ≤ x → x < j → getD s x 0 ≡ getD c x 0
 pub word-same : (s c : Bytes) (i : ℕ) → Clear s c i (i + 4) → wordAt s i ≡ wordAt c i
 unfolding wordAt
 word-same s c i h =
-    rw (h i (omega arith) (omega arith), h (i + 1) (omega arith) (omega arith), h (i + 2) (omega arith) (omega arith), h (i + 3) (omega arith) (omega arith))
+    rw (
+      h i (omega arith) (omega arith),
+      h (i + 1) (omega arith) (omega arith),
+      h (i + 2) (omega arith) (omega arith),
+      h (i + 3) (omega arith) (omega arith),
+    )
 
 pub part-same : (s c : Bytes) (v n : ℕ) → length s ≡ length c → Clear s c v (v + n) → part s v n ≡ part c v n
 part-same s c v n e h =
@@ -190,7 +193,8 @@ module _ (S : ℕ → Bytes → Bool) (place : ℕ) (strings s : Bytes) where
   -- what is hidden behind a place stands behind it, and in the block
   abbrev Behind : ℕ → ℕ → Type 0
   Behind fuel at =
-      (x : ℕ) (stack : List ℕ) (next : ℕ) → Hidden S x stack next (eventsOf host (tokensFrom fuel s at)) → (place + at + 12 ≤ x) × (x < place + length s)
+      (x : ℕ) (stack : List ℕ) (next : ℕ) → Hidden S x stack next (eventsOf host (tokensFrom fuel s at))
+      → (place + at + 12 ≤ x) × (x < place + length s)
 
   behind-token : (fuel at : ℕ) → ((next : ℕ) → Behind fuel next) → (k : Token) → Reads s at k → (x : ℕ) (stack : List ℕ) (next : ℕ)
       → Hidden S x stack next (saying host at k (eventsOf host (following (tokensFrom fuel s) k))) → (place + at + 12 ≤ x) × (x < place + length s)
@@ -232,7 +236,10 @@ module _ (S : ℕ → Bytes → Bool) (place : ℕ) (strings s : Bytes) where
     prop-clear fuel at len name value to r stack next v x p q = elim (v x p) [
       | inl e ↦ e
       | inr m ↦ elim m [
-        | inl h ↦ absurd (omega (arith, in-value (record { place = place + at; name = stringAt strings name; value = part s value len }) (place + x) (h .0) .0))
+        | inl h ↦ absurd (omega (
+          arith,
+          in-value (record { place = place + at; name = stringAt strings name; value = part s value len }) (place + x) (h .0) .0,
+        ))
         | inr h ↦ absurd (omega (arith, r .past, behind fuel to (place + x) stack next h .0))
       ]
     ]
@@ -310,9 +317,11 @@ module _ (S : ℕ → Bytes → Bool) (place : ℕ) (strings s : Bytes) where
 
     -- what holds from the next place on holds from this one on, whichever token stands here
     kept-token : (fuel at : ℕ) (k : Token) → Reads s at k
-        → ((to : ℕ) (stack : List ℕ) (next : ℕ) → Veil to stack next (eventsOf host (tokensFrom fuel s to)) → Kept stack next (tokensFrom fuel s to) (tokensFrom fuel c to))
+        → ((to : ℕ) (stack : List ℕ) (next : ℕ) → Veil to stack next (eventsOf host (tokensFrom fuel s to))
+        → Kept stack next (tokensFrom fuel s to) (tokensFrom fuel c to))
         → (stack : List ℕ) (next : ℕ) → Veil at stack next (saying host at k (eventsOf host (following (tokensFrom fuel s) k)))
-        → Kept stack next (record { at = at; token = k } ∷ following (tokensFrom fuel s) k) (record { at = at; token = k } ∷ following (tokensFrom fuel c) k)
+        → Kept stack next (record { at = at; token = k } ∷ following (tokensFrom fuel s) k)
+        (record { at = at; token = k } ∷ following (tokensFrom fuel c) k)
     unfolding judge eventsOf
     kept-token fuel at (Item (Begin len) to) r ih stack next v =
         let w = ih to (next ∷ stack) (suc next) (λ x p. v x (omega (arith, r .past))) in

@@ -1,0 +1,1 @@
+-- What is appended is said in rules: Writer.

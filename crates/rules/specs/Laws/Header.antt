@@ -1,0 +1,204 @@
+-- The laws of the header and the reservations: what a header that passes says, and that one that was written passes.
+use mathlib.Core.Path.{_≡_, refl, sym, ap, _∙_}
+use mathlib.Core.Bool.{Bool, true, false, not, _&&_, _||_}
+use mathlib.Core.Option.{none, some, Option·map}
+use mathlib.Core.List.{List, [], _∷_, _++_, append-assoc}
+use Prim.Native.Nat.{ℕ, zero, suc, _+_, _*_, _%_, _^_, _≤_, _<_}
+use native.Mathlib.Omega.{arith}
+use lib.ListN.{length, getD, length-append}
+use lib.Seq.{getD-append-add}
+use lib.Dec.{eqb, leb, ltb}
+use borrow.Author.Tests.{ltb-false, leb-false, eqb-false, le-ltb, ne-eqb}
+use Rattle.rules.specs.Ceilings.{blobCeiling}
+use Rattle.rules.specs.Octets.{Bytes, wordAt, longAt, be32, be64, words32}
+use Rattle.rules.specs.Outcome.{passes, first}
+use Rattle.rules.specs.Reservations.{Entry, invalid, anyInvalid, entryBytes, block}
+use Rattle.rules.specs.Blob.{Header, headerIn, entriesFrom, entriesIn, missing, misplaced, headerJudged}
+use Rattle.rules.specs.Writer.{headerBytes}
+use Rattle.rules.specs.Laws.Tests.{by-test, never, or-false}
+use Rattle.rules.specs.Laws.Verdicts.{gives-refuses}
+use Rattle.rules.specs.Laws.Octets.{length-words32, length-be32, length-be64}
+use Rattle.rules.specs.Laws.Encoded.{word-at, long-at}
+
+-- ---- what a header that passes says
+
+-- the third and the last of five tests
+five-pass : (a b c d e : Bool)
+    → first
+    (record { fails = a; number = 1; place = 0 }
+    ∷ record { fails = b; number = 2; place = 0 }
+    ∷ record { fails = c; number = 3; place = 0 }
+    ∷ record { fails = d; number = 4; place = 0 }
+    ∷ record { fails = e; number = 5; place = 0 }
+    ∷ []) ≡ passes
+    → (c ≡ false) × (e ≡ false)
+five-pass true b c d e h = gives-refuses tt 1 0 h
+five-pass false true c d e h = gives-refuses tt 2 0 h
+five-pass false false true d e h = gives-refuses tt 3 0 h
+five-pass false false false true e h = gives-refuses tt 4 0 h
+five-pass false false false false true h = gives-refuses tt 5 0 h
+five-pass false false false false false h = (refl, refl)
+
+pub record Laid (b : Bytes) : Type 0 where
+  pub reservations : 40 ≤ headerIn b .reservations
+  pub entries : headerIn b .reservations + 16 ≤ headerIn b .structure
+  pub strings : headerIn b .structure + headerIn b .structureSize ≤ headerIn b .strings
+  pub total : headerIn b .strings + headerIn b .stringsSize ≤ headerIn b .total
+  pub lent : headerIn b .total ≤ length b
+
+module _ (b : Bytes) (fuel at limit : ℕ) where
+  pub entries-cut : ltb limit (at + 16) ≡ true → entriesFrom (suc fuel) b at limit ≡ none
+  unfolding entriesFrom
+  entries-cut e = rw (e, entriesFrom)
+
+  pub entries-last : ltb limit (at + 16) ≡ false → (eqb (longAt b at) 0 && eqb (longAt b (at + 8)) 0) ≡ true
+      → entriesFrom (suc fuel) b at limit ≡ some []
+  unfolding entriesFrom
+  entries-last e f = rw (e, f, entriesFrom)
+
+  pub entries-more : ltb limit (at + 16) ≡ false → (eqb (longAt b at) 0 && eqb (longAt b (at + 8)) 0) ≡ false
+      → entriesFrom (suc fuel) b at limit
+      ≡ Option·map (λ (es : List Entry). record { address = longAt b at; size = longAt b (at + 8) } ∷ es) (entriesFrom fuel b (at + 16) limit)
+  unfolding entriesFrom
+  entries-more e f = rw (e, f, entriesFrom)
+
+  entries-fit : missing (entriesFrom (suc fuel) b at limit) ≡ false → at + 16 ≤ limit
+  entries-fit h = by-test (ltb limit (at + 16))
+      (λ e. never true refl (rw (entries-cut e) at h))
+      (λ e. ltb-false limit (at + 16) e)
+
+pub header-laid : (b : Bytes) → headerJudged b ≡ passes → Laid b
+unfolding headerJudged misplaced entriesIn
+header-laid b h =
+    let v : Header = headerIn b in
+    let large : Bool = ltb (v .total) 40 || ltb (length b) (v .total) || ltb blobCeiling (v .total) in
+    let f =
+    five-pass (ltb (length b) 40) (not (eqb (v .magic) 0xd00dfeed)) large (not (eqb (v .version) 17) || not (eqb (v .compatible) 16))
+    (misplaced b) h in
+    let m₁ = or-false _ (ltb (v .total) (v .strings + v .stringsSize)) (f .1) in
+    let m₂ = or-false _ (ltb (v .strings) (v .structure + v .structureSize)) (m₁ .0) in
+    let m₃ = or-false _ (missing (entriesIn b)) (m₂ .0) in
+    let m₄ = or-false _ (not (eqb (v .structureSize % 4) 0)) (m₃ .0) in
+    let m₅ = or-false _ (not (eqb (v .structure % 4) 0)) (m₄ .0) in
+    let m₆ = or-false _ (not (eqb (v .reservations % 8) 0)) (m₅ .0) in
+    let n₁ = or-false (ltb (v .total) 40 || ltb (length b) (v .total)) (ltb blobCeiling (v .total)) (f .0) in
+    let n₂ = or-false (ltb (v .total) 40) (ltb (length b) (v .total)) (n₁ .0) in
+    record {
+      reservations = ltb-false (v .reservations) 40 (m₆ .0);
+      entries = entries-fit b (length b) (v .reservations) (v .structure) (m₃ .1);
+      strings = ltb-false (v .strings) (v .structure + v .structureSize) (m₂ .1);
+      total = ltb-false (v .total) (v .strings + v .stringsSize) (m₁ .1);
+      lent = ltb-false (length b) (v .total) (n₂ .1);
+    }
+
+-- ---- a header that was written
+
+word-skip : (p s : Bytes) (at i : ℕ) → length p ≡ at → wordAt (p ++ s) (at + i) ≡ wordAt s i
+unfolding wordAt
+word-skip p s at i e =
+    let g : (k : ℕ) → getD (p ++ s) (at + i + k) 0 ≡ getD s (i + k) 0 =
+    λ k. let q : at + i + k ≡ length p + (i + k) = omega arith in ap (λ (n : ℕ). getD (p ++ s) n 0) q ∙ getD-append-add p s (i + k) 0 in
+    let g₀ : getD (p ++ s) (at + i) 0 ≡ getD s i 0 =
+    let q : at + i ≡ length p + i = omega arith in ap (λ (n : ℕ). getD (p ++ s) n 0) q ∙ getD-append-add p s i 0 in
+    rw (g₀, g 1, g 2, g 3)
+
+pub words-at : (vs : List ℕ) (r : Bytes) (i : ℕ) → i < length vs → getD vs i 0 < 4294967296 → wordAt (words32 vs ++ r) (4 * i) ≡ getD vs i 0
+unfolding words32
+words-at [] r i h k = absurd (omega arith)
+words-at (v ∷ vs) r zero h k = rw (append-assoc (be32 v) (words32 vs) r) (word-at [] (words32 vs ++ r) v 0 refl k)
+words-at (v ∷ vs) r (suc i) h k =
+    let q : 4 * suc i ≡ 4 + 4 * i = omega arith in
+    rw (append-assoc (be32 v) (words32 vs) r, q)
+    (word-skip (be32 v) (words32 vs ++ r) 4 (4 * i) (length-be32 v) ∙ words-at vs r i (omega arith) k)
+
+pub length-header : (total structure strings cpu stringsSize structureSize : ℕ)
+    → length (headerBytes total structure strings cpu stringsSize structureSize) ≡ 40
+unfolding headerBytes
+length-header total structure strings cpu stringsSize structureSize = length-words32 _
+
+module _ (total structure strings cpu stringsSize structureSize : ℕ) (r : Bytes) (small : total < 4294967296) (small₁ : structure < 4294967296)
+    (small₂ : strings < 4294967296) (small₃ : cpu < 4294967296) (small₄ : stringsSize < 4294967296) (small₅ : structureSize < 4294967296) where
+  pub header-read : headerIn (headerBytes total structure strings cpu stringsSize structureSize ++ r)
+      ≡ record {
+        magic = 0xd00dfeed;
+        total = total;
+        structure = structure;
+        strings = strings;
+        reservations = 40;
+        version = 17;
+        compatible = 16;
+        bootCpu = cpu;
+        stringsSize = stringsSize;
+        structureSize = structureSize;
+      }
+  unfolding headerIn headerBytes
+  header-read =
+      let vs : List ℕ = 0xd00dfeed ∷ total ∷ structure ∷ strings ∷ 40 ∷ 17 ∷ 16 ∷ cpu ∷ stringsSize ∷ structureSize ∷ [] in
+      λ i.
+      record {
+        magic = words-at vs r 0 (omega arith) (omega arith) i;
+        total = words-at vs r 1 (omega arith) small i;
+        structure = words-at vs r 2 (omega arith) small₁ i;
+        strings = words-at vs r 3 (omega arith) small₂ i;
+        reservations = words-at vs r 4 (omega arith) (omega arith) i;
+        version = words-at vs r 5 (omega arith) (omega arith) i;
+        compatible = words-at vs r 6 (omega arith) (omega arith) i;
+        bootCpu = words-at vs r 7 (omega arith) small₃ i;
+        stringsSize = words-at vs r 8 (omega arith) small₄ i;
+        structureSize = words-at vs r 9 (omega arith) small₅ i;
+      }
+
+-- ---- reservations that were written
+
+long-next : (p a r : Bytes) (n at m : ℕ) → length p ≡ at → length a ≡ m → n < 18446744073709551616 → longAt (p ++ (a ++ (be64 n ++ r))) (at + m) ≡ n
+long-next p a r n at m e f h =
+    ap (λ (s : Bytes). longAt s (at + m)) (sym (append-assoc p a (be64 n ++ r)))
+    ∙ long-at (p ++ a) r n (at + m) (rw length-append (omega arith)) h
+
+-- an entry that its maker passes
+valid-parts : (e : Entry) → invalid e ≡ false
+    → (e .size ≡ 0 → ⊥) × (e .address < 18446744073709551616) × (e .size < 18446744073709551616)
+unfolding invalid
+valid-parts e h =
+    let k = or-false (eqb (e .size) 0) (leb (2 ^ 64) (e .address + e .size)) h in
+    let l = leb-false (2 ^ 64) (e .address + e .size) (k .1) in
+    (eqb-false (e .size) 0 (k .0), omega arith, omega arith)
+
+pub entries-read : (rs : List Entry) (b p r : Bytes) (fuel at limit : ℕ) → b ≡ p ++ (entryBytes rs ++ (be64 0 ++ (be64 0 ++ r))) → length p ≡ at
+    → limit ≡ at + 16 * length rs + 16 → length rs < fuel → anyInvalid rs ≡ false → entriesFrom fuel b at limit ≡ some rs
+unfolding entryBytes anyInvalid
+entries-read rs b p r zero at limit e l f h v = absurd (omega arith)
+entries-read [] b p r (suc fuel) at limit e l f h v =
+    let x : longAt b at ≡ 0 = ap (λ (s : Bytes). longAt s at) e ∙ long-at p (be64 0 ++ r) 0 at l (omega arith) in
+    let y : longAt b (at + 8) ≡ 0 = ap (λ (s : Bytes). longAt s (at + 8)) e ∙ long-next p (be64 0) r 0 at 8 l (length-be64 0) (omega arith) in
+    entries-last b fuel at limit (le-ltb limit (at + 16) (omega arith)) (rw (x, y))
+entries-read (w ∷ rs) b p r (suc fuel) at limit e l f h v =
+    let k = or-false (invalid w) (anyInvalid rs) v in
+    let d = valid-parts w (k .0) in
+    let rest : Bytes = entryBytes rs ++ (be64 0 ++ (be64 0 ++ r)) in
+    let a : Bytes = be64 (w .address) in
+    let c : Bytes = be64 (w .size) in
+    let e₁ : b ≡ p ++ (a ++ (c ++ rest)) = e ∙ simp append-assoc in
+    let e₂ : b ≡ p ++ (a ++ c) ++ rest = e ∙ simp append-assoc in
+    let m : length (p ++ (a ++ c)) ≡ at + 16 = rw (length-append, length-append, length-be64 (w .address), length-be64 (w .size)) (omega arith) in
+    let x : longAt b at ≡ w .address = ap (λ (s : Bytes). longAt s at) e₁ ∙ long-at p (c ++ rest) (w .address) at l (d .1) in
+    let y : longAt b (at + 8) ≡ w .size =
+    ap (λ (s : Bytes). longAt s (at + 8)) e₁ ∙ long-next p a rest (w .size) at 8 l (length-be64 (w .address)) (d .2) in
+    let n : (eqb (longAt b at) 0 && eqb (longAt b (at + 8)) 0) ≡ false = rw (y, ne-eqb (w .size) 0 (d .0)) (and-nought (eqb (longAt b at) 0)) in
+    entries-more b fuel at limit (le-ltb limit (at + 16) (omega arith)) n
+    ∙ rw (entries-read rs b (p ++ (a ++ c)) r fuel (at + 16) limit e₂ m (omega arith) (omega arith) (k .1), x, y)
+  where
+    and-nought : (t : Bool) → (t && false) ≡ false
+    and-nought true = refl
+    and-nought false = refl
+
+length-entries : (rs : List Entry) → length (entryBytes rs) ≡ 16 * length rs
+unfolding entryBytes
+length-entries [] = refl
+length-entries (e ∷ rs) =
+    rw (length-append (be64 (e .address)) _, length-append (be64 (e .size)) _, length-be64 (e .address), length-be64 (e .size), length-entries rs)
+    (omega arith)
+
+pub length-block : (rs : List Entry) → length (block rs) ≡ 16 * length rs + 16
+unfolding block
+length-block rs = rw (length-append, length-append, length-entries rs, length-be64 0) (omega arith)

@@ -1,0 +1,151 @@
+-- `property_phandle`: its tests are those of a property, between its own; what its call answers and leaves.
+use mathlib.Core.Path.{_≡_, refl, sym, ap, _∙_}
+use mathlib.Core.Bool.{Bool, true, false, not}
+use mathlib.Core.List.{List, [], _∷_, _++_}
+use Prim.Native.Nat.{ℕ, _+_, _≤_, _<_}
+use native.Mathlib.Omega.{arith}
+use lib.Dec.{eqb, ltb}
+use lib.ListN.{length, take}
+use borrow.Author.Tests.{ltb-false, lt-ltb, le-ltb}
+use Rattle.rules.specs.Octets.{Bytes, if_then_else_, be32, padded, lay}
+use Rattle.rules.specs.Lists.{oneOf}
+use Rattle.rules.specs.Outcome.{Outcome, gives, refuses, Verdict, passes, Test, first, _then_}
+use Rattle.rules.specs.Writer.{State, impossible, wrongState, nameOffset, test, stringsOf, growth, propertyBytes, propertyAt, propertyTests, phandleName, phandleJudged, withPhandle, phandle, phandleData, phandleStrings, phandleTable}
+use Rattle.rules.specs.Laws.Octets.{length-be32}
+use Rattle.rules.specs.Laws.Writer.{length-property}
+use Rattle.writer.specs.Judged.{sized, placed, phandlePlaced, grown, longer}
+use Rattle.writer.proofs.Passed.{all-passed, answer-refused, answer-done, kept, changed}
+use Rattle.writer.proofs.Properties.{gives-judged, refuses-judged, was-placed, Placed}
+
+first-append : (ts us : List Test) → first (ts ++ us) ≡ (first ts then first us)
+first-append [] us = refl
+first-append (t ∷ ts) us = go (t .fails) (first-append ts us)
+  where
+    go : (b : Bool) → first (ts ++ us) ≡ (first ts then first us)
+        → (if b then refuses (t .number) (t .place) else first (ts ++ us)) ≡ ((if b then refuses (t .number) (t .place) else first ts) then first us)
+    go true e = refl
+    go false e = e
+
+-- the state with `size` bytes of data, `more` of strings, and one number noted
+abbrev pub withEntry : State → (size more : ℕ) → State
+withEntry w size more =
+    record {
+      dataLength = w .dataLength + size;
+      structure = w .structure;
+      stringsLength = w .stringsLength + more;
+      phandleCount = w .phandleCount + 1;
+      depth = w .depth;
+      ended = w .ended;
+      finished = w .finished;
+      bootCpu = w .bootCpu;
+    }
+
+-- the test for room in the table
+abbrev pub tableTest : State → List ℕ → Test
+tableTest w phandles = test (ltb (length phandles) (w .phandleCount + 1)) 33
+
+module _ (w : State) (lent : ℕ) (strings : Bytes) (phandles : List ℕ) (value : ℕ) where
+  size : length (propertyAt w strings phandleName (be32 value)) ≡ 16
+  size = length-property (nameOffset phandleName (stringsOf w strings)) (be32 value) ∙ rw (length-be32 value)
+
+  -- behind its own tests come those of a property
+  pub phandle-on : impossible w lent (length strings) ≡ false → ltb (length phandles) (w .phandleCount) ≡ false → oneOf value (take (w .phandleCount) phandles) ≡ false
+      → phandleJudged w lent strings phandles value ≡ (sized w lent strings false phandleName 16 then first (tableTest w phandles ∷ []))
+  unfolding phandleJudged sized
+  phandle-on a b c =
+      rw (a, b, c) (first-append (propertyTests w lent strings phandleName (be32 value)) (tableTest w phandles ∷ []) ∙ rw size)
+
+then-passed : (v u : Verdict) → passes ≡ (v then u) → passes ≡ v
+then-passed (gives x) u e = refl
+then-passed (refuses n p) u e = e
+
+module _
+    (w : State)
+    (lent : ℕ)
+    (strings : Bytes)
+    (phandles : List ℕ)
+    (value : ℕ)
+    (a : impossible w lent (length strings) ≡ false)
+    (b : ltb (length phandles) (w .phandleCount) ≡ false)
+    (c : oneOf value (take (w .phandleCount) phandles) ≡ false) where
+  -- the property is refused
+  pub phandle-not : (n : ℕ) → refuses n 0 ≡ placed w lent strings false phandleName 16 → refuses n 0 ≡ phandlePlaced w lent strings phandles value
+  unfolding placed phandlePlaced
+  phandle-not n e = rw (phandle-on w lent strings phandles value a b c, ← refuses-judged (sized w lent strings false phandleName 16) n (nameOffset phandleName (stringsOf w strings)) e)
+
+  -- it passes, and the table is full
+  pub phandle-full : (offset : ℕ) → gives offset ≡ placed w lent strings false phandleName 16 → length phandles ≡ w .phandleCount → refuses 33 0 ≡ phandlePlaced w lent strings phandles value
+  unfolding placed phandlePlaced
+  phandle-full offset e h =
+      let v = gives-judged (sized w lent strings false phandleName 16) offset (nameOffset phandleName (stringsOf w strings)) e .0 in
+      rw (phandle-on w lent strings phandles value a b c, ← v, lt-ltb (length phandles) (w .phandleCount + 1) (omega arith))
+
+  -- it passes, and the table is not
+  pub phandle-at : (offset : ℕ) → gives offset ≡ placed w lent strings false phandleName 16 → w .phandleCount < length phandles → gives offset ≡ phandlePlaced w lent strings phandles value
+  unfolding placed phandlePlaced
+  phandle-at offset e h =
+      let v = gives-judged (sized w lent strings false phandleName 16) offset (nameOffset phandleName (stringsOf w strings)) e in
+      rw (phandle-on w lent strings phandles value a b c, ← v .0, le-ltb (length phandles) (w .phandleCount + 1) (omega arith)) (ap gives (v .1))
+
+pub record Noted (w : State) (lent : ℕ) (strings : Bytes) (phandles : List ℕ) (value offset : ℕ) : Type 0 where
+  pub judged : passes ≡ phandleJudged w lent strings phandles value
+  pub entry : w .phandleCount + 1 ≤ length phandles
+  pub place : Placed w lent strings phandleName 16 offset
+
+pub was-noted : (w : State) (lent : ℕ) (strings : Bytes) (phandles : List ℕ) (value offset : ℕ) → gives offset ≡ phandlePlaced w lent strings phandles value → Noted w lent strings phandles value offset
+unfolding phandlePlaced phandleJudged placed
+was-noted w lent strings phandles value offset e =
+    let v = gives-judged (phandleJudged w lent strings phandles value) offset (nameOffset phandleName (stringsOf w strings)) e in
+    let t =
+    all-passed
+    (wrongState w lent (length strings)
+    ∷ test (ltb (length phandles) (w .phandleCount)) 34
+    ∷ test (oneOf value (take (w .phandleCount) phandles)) 32
+    ∷ (propertyTests w lent strings phandleName (be32 value)
+    ++ test (ltb (length phandles) (w .phandleCount + 1)) 33
+    ∷ []))
+    (v .0) in
+    let s = then-passed (sized w lent strings false phandleName 16) (first (tableTest w phandles ∷ [])) (v .0 ∙ phandle-on w lent strings phandles value (t .0) (t .1 .0) (t .1 .1 .0)) in
+    let p : gives offset ≡ placed w lent strings false phandleName 16 = rw (← s) (ap gives (v .1)) in
+    record {
+      judged = v .0;
+      entry = ltb-false (length phandles) (w .phandleCount + 1) (t .1 .1 .1 .1 .1 .1 .1 .1 .1 .0);
+      place = was-placed w lent strings false phandleName 16 offset p;
+    }
+
+-- ---- what a call answers and leaves
+
+module _ (w : State) (d strings : Bytes) (phandles : List ℕ) (value : ℕ) where
+  pub phandle-refused : (n : ℕ) → refuses n 0 ≡ phandlePlaced w (length d) strings phandles value
+      → (record { verdict = refuses n 0; state = w } ≡ phandle w (length d) strings phandles value)
+      × ((d ≡ phandleData w d strings phandles value)
+      × ((strings ≡ phandleStrings w (length d) strings phandles value)
+      × (phandles ≡ phandleTable w (length d) strings phandles value)))
+  unfolding phandlePlaced phandle phandleData phandleStrings phandleTable
+  phandle-refused n e =
+      let v : refuses n 0 ≡ phandleJudged w (length d) strings phandles value = refuses-judged _ n _ e in
+      (answer-refused _ n w (withPhandle w strings value) v, (kept _ n d _ v, (kept _ n strings _ v, kept _ n phandles _ v)))
+
+  pub phandle-done : (offset : ℕ) (d₁ s₁ : Bytes) (t₁ : List ℕ) → gives offset ≡ phandlePlaced w (length d) strings phandles value
+      → d₁ ≡ lay d (w .dataLength) (propertyBytes offset (be32 value))
+      → s₁ ≡ lay strings (w .stringsLength) (grown offset (w .stringsLength) phandleName)
+      → t₁ ≡ lay phandles (w .phandleCount) (value ∷ [])
+      → (record { verdict = passes; state = withEntry w 16 (length (grown offset (w .stringsLength) phandleName)) } ≡ phandle w (length d) strings phandles value)
+      × ((d₁ ≡ phandleData w d strings phandles value)
+      × ((s₁ ≡ phandleStrings w (length d) strings phandles value)
+      × (t₁ ≡ phandleTable w (length d) strings phandles value)))
+  unfolding phandle phandleData phandleStrings phandleTable
+  phandle-done offset d₁ s₁ t₁ e f g h =
+      let q = was-noted w (length d) strings phandles value offset e in
+      let p = q .place in
+      let v = q .judged in
+      let n = size w (length d) strings phandles value in (
+        rw (← n, ← p .grows) (answer-done _ w (withPhandle w strings value) v),
+        (
+          changed _ d d₁ (w .dataLength) (propertyAt w strings phandleName (be32 value)) v (omega (arith, p .dataFits)) (rw (p .found) at f),
+          (
+            changed _ strings s₁ (w .stringsLength) (growth w strings phandleName) v (p .stringsFit) (rw (← p .grows) at g),
+            changed _ phandles t₁ (w .phandleCount) (value ∷ []) v (q .entry) h,
+          ),
+        ),
+      )

@@ -1,0 +1,123 @@
+-- A property whose tests were judged by its size: what is known where they pass, and what its call answers and leaves.
+use mathlib.Core.Path.{_≡_, refl, sym, ap, _∙_}
+use mathlib.Core.Bool.{Bool, true, false, not}
+use mathlib.Core.List.{List, [], _∷_, _++_}
+use Prim.Native.Nat.{ℕ, _+_, _≤_, _<_}
+use native.Mathlib.Omega.{arith}
+use lib.Dec.{eqb, ltb}
+use lib.ListN.{length, take}
+use lib.Seq.{length-take-le}
+use Rattle.rules.specs.Octets.{Bytes, if_then_else_, padded, lay, hasNul, closed}
+use Rattle.rules.specs.Names.{propertyNameValid}
+use Rattle.rules.specs.Outcome.{Outcome, gives, refuses, Verdict, passes, _then_}
+use Rattle.rules.specs.Writer.{State, Answer, nameOffset, nameGrowth, noRoom, wrongState, test, stringsOf, growth, propertyBytes, propertyAt, propertyJudged, withProperty, property, propertyData, propertyStrings}
+use Rattle.rules.specs.Laws.Tests.{by-test}
+use Rattle.rules.specs.Laws.Writer.{length-closed, length-property}
+use Rattle.writer.specs.Judged.{sized, placed, grown, longer}
+use Rattle.writer.proofs.Passed.{all-passed, possible, Possible, fits, answer-refused, answer-done, kept, changed}
+
+-- ---- a judgement, and what it gives
+
+pub gives-judged : (v : Verdict) (a b : ℕ) → gives a ≡ (v then gives b) → (passes ≡ v) × (a ≡ b)
+gives-judged (gives u) a b e = (refl, cc)
+gives-judged (refuses n p) a b e = let z : _≡_ {A = ℕ} 0 1 = cc in absurd (omega arith)
+
+pub refuses-judged : (v : Verdict) (n b : ℕ) → refuses n 0 ≡ (v then gives b) → refuses n 0 ≡ v
+refuses-judged (gives u) n b e = let z : _≡_ {A = ℕ} 0 1 = cc in absurd (omega arith)
+refuses-judged (refuses m p) n b e = cc
+
+-- ---- what the strings grow by
+
+pub length-grown : (offset used : ℕ) (name : Bytes) → length (grown offset used name) ≡ if ltb offset used then 0 else length name + 1
+length-grown offset used name = by-test (ltb offset used) (λ e. rw e) (λ e. rw e (length-closed name))
+
+pub growth-eq : (w : State) (strings name : Bytes) (offset : ℕ) → w .stringsLength ≤ length strings → offset ≡ nameOffset name (stringsOf w strings) → growth w strings name ≡ grown offset (w .stringsLength) name
+unfolding nameGrowth
+growth-eq w strings name offset h e = rw (length-take-le (w .stringsLength) strings h, ← e)
+
+-- ---- judged by size
+
+pub by-size : (w : State) (lent : ℕ) (strings : Bytes) (own : Bool) (name value : Bytes) (size : ℕ) → size ≡ 12 + padded (length value)
+    → propertyJudged w lent strings own name value ≡ sized w lent strings own name size
+unfolding propertyJudged sized
+by-size w lent strings own name value size e = rw (length-property (nameOffset name (stringsOf w strings)) value, ← e)
+
+pub record Placed (w : State) (dataLent : ℕ) (strings name : Bytes) (size offset : ℕ) : Type 0 where
+  pub dataFits : w .dataLength + size ≤ dataLent
+  pub dataSmall : w .dataLength + size ≤ 1048576
+  pub inStrings : w .stringsLength ≤ length strings
+  pub stringsSmall : w .stringsLength ≤ 1048576
+  pub stringsFit : w .stringsLength + length (growth w strings name) ≤ length strings
+  pub found : offset ≡ nameOffset name (stringsOf w strings)
+  pub grows : growth w strings name ≡ grown offset (w .stringsLength) name
+
+module _ (w : State) (dataLent : ℕ) (strings : Bytes) (own : Bool) (name : Bytes) (size offset : ℕ) (e : gives offset ≡ placed w dataLent strings own name size) where
+  pub was-judged : passes ≡ sized w dataLent strings own name size
+  unfolding placed
+  was-judged = gives-judged (sized w dataLent strings own name size) offset (nameOffset name (stringsOf w strings)) e .0
+
+  was-found : offset ≡ nameOffset name (stringsOf w strings)
+  unfolding placed
+  was-found = gives-judged (sized w dataLent strings own name size) offset (nameOffset name (stringsOf w strings)) e .1
+
+  pub was-placed : Placed w dataLent strings name size offset
+  unfolding sized
+  was-placed =
+      let t =
+      all-passed
+      (wrongState w dataLent (length strings)
+      ∷ test own 24
+      ∷ test (w .ended) 21
+      ∷ test (eqb (w .depth) 0) 20
+      ∷ test (hasNul name) 24
+      ∷ test (not (propertyNameValid name)) 30
+      ∷ noRoom dataLent (w .dataLength + size)
+      ∷ noRoom (length strings) (w .stringsLength + length (growth w strings name))
+      ∷ [])
+      was-judged in
+      let p = possible w dataLent (length strings) (t .0) in
+      let d = fits dataLent (w .dataLength + size) (t .1 .1 .1 .1 .1 .1 .0) in
+      let s = fits (length strings) (w .stringsLength + length (growth w strings name)) (t .1 .1 .1 .1 .1 .1 .1 .0) in
+      record {
+        dataFits = d .0;
+        dataSmall = d .1;
+        inStrings = p .inStrings;
+        stringsSmall = p .stringsSmall;
+        stringsFit = s .0;
+        found = was-found;
+        grows = growth-eq w strings name offset (p .inStrings) was-found;
+      }
+
+-- ---- what a call answers and leaves
+
+abbrev pub with-done : State → Answer
+with-done w = record { verdict = passes; state = w }
+
+module _ (w : State) (d strings : Bytes) (own : Bool) (name value : Bytes) (size : ℕ) (z : size ≡ 12 + padded (length value)) where
+  pub property-refused : (n : ℕ) → refuses n 0 ≡ placed w (length d) strings own name size
+      → (record { verdict = refuses n 0; state = w } ≡ property w (length d) strings own name value)
+      × ((d ≡ propertyData w d strings own name value) × (strings ≡ propertyStrings w (length d) strings own name value))
+  unfolding placed property propertyData propertyStrings
+  property-refused n e =
+      let v : refuses n 0 ≡ propertyJudged w (length d) strings own name value = refuses-judged _ n _ e ∙ sym (by-size w (length d) strings own name value size z) in
+      (answer-refused _ n w (withProperty w strings name value) v, (kept _ n d _ v, kept _ n strings _ v))
+
+  pub property-done : (offset : ℕ) (d₁ s₁ : Bytes) → gives offset ≡ placed w (length d) strings own name size
+      → d₁ ≡ lay d (w .dataLength) (propertyBytes offset value) → s₁ ≡ lay strings (w .stringsLength) (grown offset (w .stringsLength) name)
+      → (record { verdict = passes; state = longer w size (length (grown offset (w .stringsLength) name)) } ≡ property w (length d) strings own name value)
+      × ((d₁ ≡ propertyData w d strings own name value) × (s₁ ≡ propertyStrings w (length d) strings own name value))
+  unfolding property propertyData propertyStrings
+  property-done offset d₁ s₁ e f g =
+      let v : passes ≡ propertyJudged w (length d) strings own name value = was-judged w (length d) strings own name size offset e ∙ sym (by-size w (length d) strings own name value size z) in
+      let p = was-placed w (length d) strings own name size offset e in
+      let n : size ≡ length (propertyAt w strings name value) = z ∙ sym (length-property (nameOffset name (stringsOf w strings)) value) in (
+        rw (n, ← p .grows) (answer-done _ w (withProperty w strings name value) v),
+        (
+          changed _ d d₁ (w .dataLength) (propertyAt w strings name value) v (omega (arith, p .dataFits)) (rw (p .found) at f),
+          changed _ strings s₁ (w .stringsLength) (growth w strings name) v (p .stringsFit) (rw (← p .grows) at g),
+        ),
+      )
+
+-- the size of a value that is longer or shorter than what is lent for it
+pub size-of : (size n : ℕ) (value : Bytes) → size ≡ 12 + padded n → length value ≡ n → size ≡ 12 + padded (length value)
+size-of size n value e l = e ∙ ap (λ (k : ℕ). 12 + padded k) (sym l)
