@@ -7,19 +7,22 @@ use native.Mathlib.Omega.{arith}
 use native.Mathlib.Numerals.{add-one}
 use lib.ListN.{length, take, drop, length-drop}
 use lib.Seq.{take-all, take-nil}
+use lib.Dec.{eqb, leb}
 use types.Run.{OneOf}
+use borrow.Author.Tests.{leb-true}
 use denote.Enum.Declared.{tagOf}
 use Rattle.rules.proofs.Token as tokened
-use Rattle.rules.specs.Octets.{Bytes, same, part}
+use Rattle.rules.specs.Octets.{Bytes, same, part, wordAt, nulIn, padded}
 use Rattle.rules.specs.Outcome.{Verdict, gives, refuses, passes, _then_}
-use Rattle.rules.specs.Tokens.{tokenAt}
+use Rattle.rules.specs.Tokens.{beginAt, propAt, tagged, tokenAt}
 use Rattle.rules.specs.Events.{Property, stringAt, saying}
 use Rattle.rules.specs.Tree.{propsOf, named, doubledProps}
 use Rattle.rules.specs.declared.Token.{Token}
-use Rattle.rules.specs.declared.Token.the-variants.{Item}
+use Rattle.rules.specs.declared.Token.the-variants.{Item, End, Cut}
 use Rattle.rules.specs.declared.Kind.{Kind}
 use Rattle.rules.specs.declared.Kind.the-variants.{Begin, EndNode, Prop, Nop}
 use Rattle.rules.specs.Laws.Tests.{by-test, never, or-nothing, or-left, or-right}
+use Rattle.rules.specs.Laws.Tokens.{if-by}
 use Rattle.passes.specs.Passes.{blockOf, eventsAt, propsAt}
 use Rattle.passes.specs.Props.{Next, Stands, firstHit, upToHit, Met, Unmet, MeetsBy}
 use Rattle.passes.specs.declared.props.Property as read
@@ -27,6 +30,46 @@ use Rattle.passes.specs.declared.props.Property.the-variants.{Here, Miss
 use Rattle.passes.specs.declared.props.Hit as hits
 use Rattle.passes.specs.declared.props.Hit.the-variants as hit
 use Rattle.passes.proofs.Turns.{events-item, events-stop}
+
+-- ---- where a property's name offset stands
+
+abbrev Offset : Bytes → ℕ → Token → Type 0
+Offset s at (Item (Begin len) next) = Unit {0}
+Offset s at (Item EndNode next) = Unit {0}
+Offset s at (Item (Prop len name value) next) = (name ≡ wordAt s (at + 8)) × (at + 12 ≤ length s)
+Offset s at (Item Nop next) = Unit {0}
+Offset s at End = Unit {0}
+Offset s at Cut = Unit {0}
+
+offset-begin : (s : Bytes) (at b : ℕ) → Offset s at (beginAt s b)
+unfolding beginAt
+offset-begin s at b = if-by (Offset s at) (leb (b + padded (nulIn (drop b s) + 1)) (length s)) (λ _. tt) (λ _. tt)
+
+offset-prop : (s : Bytes) (at : ℕ) → Offset s at (propAt s (at + 4))
+unfolding propAt
+offset-prop s at =
+    let e : at + 4 + 4 ≡ at + 8 = omega arith in
+    if-by (Offset s at) (leb (at + 4 + 8) (length s))
+    (λ h. let l : at + 12 ≤ length s = omega (arith, leb-true (at + 4 + 8) (length s) h) in
+    if-by (Offset s at) (leb (at + 4 + 8 + padded (wordAt s (at + 4))) (length s)) (λ _. (ap (wordAt s) e, l)) (λ _. tt))
+    (λ _. tt)
+
+offset-tagged : (s : Bytes) (at tag : ℕ) → Offset s at (tagged tag s (at + 4))
+unfolding tagged
+offset-tagged s at tag =
+    if-by (Offset s at) (eqb tag 1) (λ _. offset-begin s at (at + 4))
+    (λ _. if-by (Offset s at) (eqb tag 2) (λ _. tt)
+    (λ _. if-by (Offset s at) (eqb tag 3) (λ _. offset-prop s at)
+    (λ _. if-by (Offset s at) (eqb tag 4) (λ _. tt)
+    (λ _. if-by (Offset s at) (eqb tag 9) (λ _. tt) (λ _. tt)))))
+
+offset-token : (s : Bytes) (at : ℕ) → Offset s at (tokenAt s at)
+unfolding tokenAt
+offset-token s at = if-by (Offset s at) (leb (at + 4) (length s)) (λ _. offset-tagged s at (wordAt s at)) (λ _. tt)
+
+pub name-offset : (s : Bytes) (at : ℕ) (r : Token) (kind : Kind) (next len name value : ℕ) → r ≡ tokenAt s at → r ≡ Item kind next → kind ≡ Prop len name value
+    → (name ≡ wordAt s (at + 8)) × (at + 12 ≤ length s)
+name-offset s at r kind next len name value e f g = subst (Offset s at) (sym e ∙ f ∙ ap (λ (k : Kind). Item k next) g) (offset-token s at)
 
 -- ---- the next property
 
@@ -48,6 +91,13 @@ module _ (s strings : Bytes) (at : ℕ) (i : at ≤ length s) (r : Token) (e : r
         → propsAt s strings p at ≡ record { place = p + at; name = stringAt strings name; value = part s value len } ∷ propsAt s strings p next
     unfolding propsOf
     props-prop len name value g = said (Prop len name value) g
+
+    -- the name by an offset that is the same
+    pub props-named : (len name value offset : ℕ) → kind ≡ Prop len name value → offset ≡ name
+        → propsAt s strings p at ≡ record { place = p + at; name = stringAt strings offset; value = part s value len } ∷ propsAt s strings p next
+    props-named len name value offset g h =
+        props-prop len name value g
+        ∙ ap (λ (n : ℕ). record { place = p + at; name = stringAt strings n; value = part s value len } ∷ propsAt s strings p next) (sym h)
 
     pub props-begin : (len : ℕ) → kind ≡ Begin len → propsAt s strings p at ≡ []
     unfolding propsOf
@@ -211,16 +261,6 @@ module _ (f : Bytes → Bool) (xs : List Property) (same : (x : Bytes) → named
   pub behind : (ps : List Property) → doubledProps xs ps ≡ (doubledProps [] (upToHit f ps) then firstHit f ps)
   behind ps = split [] ps
 
--- one property, and those behind it
-one-named : (q : Property) (x : Bytes) → named x (q ∷ []) ≡ same x (q .name)
-unfolding named
-one-named q x = or-nothing (same x (q .name))
-
-pub one-behind : (q : Property) (ps : List Property)
-    → doubledProps [] (q ∷ ps) ≡ (doubledProps [] (upToHit (λ (n : Bytes). same n (q .name)) ps) then firstHit (λ (n : Bytes). same n (q .name)) ps)
-unfolding named
-one-behind q ps = props-go [] q ps refl ∙ behind (λ (n : Bytes). same n (q .name)) (q ∷ []) (one-named q) ps
-
 pub meets-here : (f : Bytes → Bool) (s strings : Bytes) (from left index at : ℕ) (r : hits.Hit) → r ≡ hit.Here index at → MeetsBy f s strings from left r → Met f s strings from left index at
 meets-here f s strings from left index at r e h = subst (MeetsBy f s strings from left) e h
 
@@ -239,24 +279,17 @@ left-none left ps v e = ap (λ (w : Verdict). w then v) (ap (doubledProps []) (a
 pub left-zero : (left : ℕ) (ps : List Property) (v : Verdict) → left ≡ 0 → (doubledProps [] (take left ps) then v) ≡ v
 left-zero left ps v e = ap (λ (w : Verdict). w then v) (ap (doubledProps []) (ap (λ (n : ℕ). take n ps) e) ∙ props-none [])
 
-module _ (q : Property) (rs : List Property) (left : ℕ) (h : 0 < left) (ps : List Property) (v : Verdict) where
-  abbrev f : Bytes → Bool
-  f n = same n (q .name)
-
-  one-left : ps ≡ q ∷ rs → doubledProps [] (take left ps) ≡ (doubledProps [] (upToHit f (take (left - 1) rs)) then firstHit f (take (left - 1) rs))
-  one-left e =
-      let n : left ≡ suc (left - 1) = omega arith in
-      let m : take left ps ≡ q ∷ take (left - 1) rs = ap (λ (k : ℕ). take k ps) n ∙ ap (take (suc (left - 1))) e in
-      ap (λ (l : List Property). doubledProps [] l) m ∙ one-behind q (take (left - 1) rs)
-
-  pub left-hit : (index x : ℕ) → ps ≡ q ∷ rs → firstHit f (take (left - 1) rs) ≡ refuses 10 x → upToHit f (take (left - 1) rs) ≡ take index rs
-      → (doubledProps [] (take left ps) then v) ≡ (doubledProps [] (take index rs) then refuses 10 x)
-  left-hit index x e a b =
-      ap (λ (w : Verdict). w then v) (one-left e ∙ ap₂ (λ (l : List Property) (w : Verdict). doubledProps [] l then w) b a)
+-- a full chunk, and what is behind it: one of that is in the chunk, or none is
+module _ (f : Bytes → Bool) (xs rs : List Property) (left : ℕ) (v a : Verdict)
+    (same : (x : Bytes) → named x xs ≡ f x) (e : a ≡ doubledProps xs (take left rs)) where
+  pub left-hit : (index x : ℕ) → firstHit f (take left rs) ≡ refuses 10 x → upToHit f (take left rs) ≡ take index rs
+      → (a then v) ≡ (doubledProps [] (take index rs) then refuses 10 x)
+  left-hit index x g b =
+      ap (λ (w : Verdict). w then v) (e ∙ behind f xs same (take left rs) ∙ ap₂ (λ (l : List Property) (w : Verdict). doubledProps [] l then w) b g)
       ∙ then-refuses (doubledProps [] (take index rs)) v 10 x
 
-  pub left-miss : ps ≡ q ∷ rs → firstHit f (take (left - 1) rs) ≡ passes → upToHit f (take (left - 1) rs) ≡ take (left - 1) rs
-      → (doubledProps [] (take left ps) then v) ≡ (doubledProps [] (take (left - 1) rs) then v)
-  left-miss e a b =
+  pub left-miss : firstHit f (take left rs) ≡ passes → upToHit f (take left rs) ≡ take left rs
+      → (a then v) ≡ (doubledProps [] (take left rs) then v)
+  left-miss g b =
       ap (λ (w : Verdict). w then v)
-      (one-left e ∙ ap₂ (λ (l : List Property) (w : Verdict). doubledProps [] l then w) b a ∙ then-passes (doubledProps [] (take (left - 1) rs)))
+      (e ∙ behind f xs same (take left rs) ∙ ap₂ (λ (l : List Property) (w : Verdict). doubledProps [] l then w) b g ∙ then-passes (doubledProps [] (take left rs)))

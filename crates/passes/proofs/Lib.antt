@@ -4,3 +4,4 @@ pub mod Watched
 pub mod Phandles
 pub mod Doubles
 pub mod Twins
+pub mod Chunks

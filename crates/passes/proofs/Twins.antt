@@ -30,6 +30,8 @@ use Rattle.passes.specs.Passes.{blockOf, nodesIn, eventsAt, verdict}
 use Rattle.passes.specs.declared.Found.{Found}
 use Rattle.passes.specs.declared.Found.the-variants.{Nothing, At}
 use Rattle.passes.specs.Rows.{hasRow}
+use Rattle.passes.specs.Sorted.{chunkStart}
+use Rattle.passes.specs.Props.{Clear}
 use Rattle.passes.specs.Siblings.{namedAt, rowNamed, siblingBelow, rowParent, nodeJudged, Table}
 use Rattle.passes.proofs.Turns.{events-all, events-item, events-stop}
 
@@ -292,3 +294,18 @@ module _ (s strings : Bytes) (place : ℕ) (w : List ℕ) (at count : ℕ) (i : 
             ahead = listed .2;
             below = one-more;
           })
+
+-- the words behind the table are those of the chunk
+pub table-clear : (w : List ℕ) (t : Tree) → Table w t → Clear w
+unfolding nodeWords nodeCeiling workWords
+table-clear w t table = record { room = table .room; zeros = λ i h. table .clear (chunkStart + i) (omega arith) (omega arith) }
+
+-- what is known of a work space, where it is as it was
+pub node-back : (s strings : Bytes) (place : ℕ) (w v : List ℕ) (i at len next : ℕ) (q : Found) → v ≡ w → workWords ≤ length w
+    → (workWords ≤ length v → verdict 10 place q ≡ nodeJudged s strings place v i at len next place)
+    → verdict 10 place q ≡ nodeJudged s strings place w i at len next place
+node-back s strings place w v i at len next q e h f =
+    f (subst (λ (l : List ℕ). workWords ≤ length l) (sym e) h) ∙ ap (λ (l : List ℕ). nodeJudged s strings place l i at len next place) e
+
+pub kept-back : (w v u : List ℕ) → v ≡ w → Clear w → (Clear v → u ≡ v) → u ≡ w
+kept-back w v u e c f = f (subst Clear (sym e) c) ∙ e

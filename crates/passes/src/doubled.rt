@@ -9,6 +9,8 @@ ghost use Prim.Native.Nat.{ℕ, _+_, _≤_};
 ghost use lib.ListN.{length};
 ghost use Rattle.rules.specs.Tree.{doubledJudged};
 ghost use Rattle.passes.specs.Passes.{nodesIn, verdict, Inside};
+ghost use Rattle.rules.specs.Ceilings.{workWords};
+ghost use Rattle.passes.specs.Props.{Clear};
 ghost use Rattle.passes.specs.Siblings.{namedAt, rowNamed, siblingBelow, rowParent, nodeJudged, Table};
 
 // Whether a name without NUL is the name that stands at the start of `tail`, up to its NUL or the end.
@@ -68,28 +70,31 @@ fn node(
     s: &[u8],
     strings: &[u8],
     place: usize,
-    work: &[u32],
+    work: &mut [u32],
     i: usize,
     at: usize,
     len: usize,
     next: usize,
 ) -> Found
     requires { ⌜ (at + 4 ≤ length (now s)) × (next ≤ length (now s)) ⌝ }
-    ensures judged { λ r. ⌜ ((p : ℕ) → verdict 10 p r ≡ nodeJudged (now (s .entry)) (now (strings .entry)) place (now (work .entry)) i at len next p) ⌝ }
+    ensures judged { λ r. ⌜ (workWords ≤ length (now (work .entry)) → (p : ℕ) → verdict 10 p r ≡ nodeJudged (now (s .entry)) (now (strings .entry)) place (now (work .entry)) i at len next p) ⌝ }
     ensures inside { λ r. ⌜ Inside (now (s .entry)) r ⌝ }
+    ensures kept { λ _. ⌜ (Clear (now (work .entry)) → now (work .exit) ≡ now (work .entry)) ⌝ }
 {
     let name = octets::part(s, at + 4, len);
     if sibling_below(s, place, work, i, row_parent(work, i), name) {
         return Found::At(at);
     }
-    doubled_props(s, strings, next)
+    doubled_props(s, strings, work, next)
 }
 
 // Judges refusal 10 in the structure block s, which stands at `place` in the blob, with this strings block; `work` holds the
-// node table. Answers Nothing, or At the first token whose name an earlier sibling, or an earlier property of its node, has.
-pub fn doubled(s: &[u8], strings: &[u8], place: usize, work: &[u32]) -> Found
+// node table, and zeros behind it, which are used on the way and are zero again at return. Answers Nothing, or At the first
+// token whose name an earlier sibling, or an earlier property of its node, has.
+pub fn doubled(s: &[u8], strings: &[u8], place: usize, work: &mut [u32]) -> Found
     ensures judged { λ r. ⌜ (Table (now (work .entry)) (nodesIn (now (s .entry)) (now (strings .entry)) place) → verdict 10 place r ≡ doubledJudged (nodesIn (now (s .entry)) (now (strings .entry)) place)) ⌝ }
     ensures inside { λ r. ⌜ Inside (now (s .entry)) r ⌝ }
+    ensures kept { λ _. ⌜ (Table (now (work .entry)) (nodesIn (now (s .entry)) (now (strings .entry)) place) → now (work .exit) ≡ now (work .entry)) ⌝ }
 {
     let mut at = 0;
     let mut count = 0;

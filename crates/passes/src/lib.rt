@@ -3,6 +3,7 @@ pub mod cells;
 pub mod doubled;
 mod props;
 pub mod shared;
+mod sorted;
 mod words;
 
 // What a pass finds.

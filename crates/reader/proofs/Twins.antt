@@ -58,29 +58,30 @@ module _ {b : Block} {work : List ℕ} {count : ℕ} (t : Tabled b work count) w
 
   -- ---- the first that refuses, or none
 
-  module _ {f : Found} (doubled : verdict 10 (b .place) f ≡ doubledJudged (treeOf b)) where
-    pub is-doubled : {at : ℕ} → f ≡ At at → Paired b work work (Refused (Doubled (b .place + at)))
+  -- the first pass leaves the work space as it was
+  module _ {f : Found} {mid : List ℕ} (doubled : verdict 10 (b .place) f ≡ doubledJudged (treeOf b)) (kept : mid ≡ work) where
+    pub is-doubled : {at : ℕ} → f ≡ At at → Paired b work mid (Refused (Doubled (b .place + at)))
     is-doubled {at} e =
         let v : doubledJudged (treeOf b) ≡ refuses 10 (b .place + at) = sym doubled ∙ ap (verdict 10 (b .place)) e in
-        record { judged = rw v; table = refl }
+        record { judged = rw v; table = ap (spaceOf []) kept }
 
     module _ (none₁ : f ≡ Nothing) (g : Found) (words : verdict 11 (b .place) g ≡ wordsJudged (treeOf b)) where
       v₁ : doubledJudged (treeOf b) ≡ passes
       v₁ = sym doubled ∙ ap (verdict 10 (b .place)) none₁
 
-      pub is-cells : {at : ℕ} → g ≡ At at → Paired b work work (Refused (Cells (b .place + at)))
+      pub is-cells : {at : ℕ} → g ≡ At at → Paired b work mid (Refused (Cells (b .place + at)))
       is-cells {at} e =
           let v : wordsJudged (treeOf b) ≡ refuses 11 (b .place + at) = sym words ∙ ap (verdict 11 (b .place)) e in
-          record { judged = rw (v₁, v); table = refl }
+          record { judged = rw (v₁, v); table = ap (spaceOf []) kept }
 
-      module _ (none₂ : g ≡ Nothing) (h : Found) {new : List ℕ} (rows : (verdict 12 (b .place) h, new) ≡ rowsFrom work 0 (treeOf b)) where
+      module _ (none₂ : g ≡ Nothing) (h : Found) {new : List ℕ} (rows : (verdict 12 (b .place) h, new) ≡ rowsFrom mid 0 (treeOf b)) where
         v₂ : wordsJudged (treeOf b) ≡ passes
         v₂ = sym words ∙ ap (verdict 11 (b .place)) none₂
 
         shared : (verdict 12 (b .place) h ≡ sharedJudged (treeOf b)) × Rest work (rowsOf (treeOf b)) (verdict 12 (b .place) h) new
         shared =
             let s = shared-table work (t .room) (treeOf b) work (omega (arith, few, table-fits)) (t .table) in
-            subst (λ (p : Verdict × List ℕ). (p .0 ≡ sharedJudged (treeOf b)) × Rest work (rowsOf (treeOf b)) (p .0) (p .1)) (sym rows) s
+            subst (λ (p : Verdict × List ℕ). (p .0 ≡ sharedJudged (treeOf b)) × Rest work (rowsOf (treeOf b)) (p .0) (p .1)) (sym (rows ∙ ap (λ (x : List ℕ). rowsFrom x 0 (treeOf b)) kept)) s
 
         pub is-shared : {at : ℕ} → h ≡ At at → Paired b work new (Refused (Shared (b .place + at)))
         is-shared {at} e =

@@ -7,7 +7,7 @@ use denote.Ref.{now}
 use Rattle.rules.specs.Laws.Tokens.{item-ahead}
 use Rattle.rules.specs.Octets.{part}
 use Rattle.passes.specs.Passes.{propsAt}
-use Rattle.passes.proofs.Doubles.{props-stop, props-nop, props-prop, props-begin, props-end}
+use Rattle.passes.proofs.Doubles.{props-stop, props-nop, props-named, name-offset, props-begin, props-end}
 use borrow.Author.Needs.{needs}
 use Rattle.passes.proofs.props.property_at.Statement.{statement}
 use Rattle.passes.proofs.props.property_at.Tie as tie
@@ -39,25 +39,32 @@ loop-less c = omega (arith, item-ahead (now (c .before .before .before .before .
 loop-again : tie.Need-loop-again Inv-loop μ-loop
 loop-again c = (omega (arith, item-ahead (now (c .before .before .before .before .before .before .before .before .before .args .s)) (c .before .before .before .before .before .before .loop .at) (c .before .before .before .before .before .token-at .result) (c .before .before .before .kind .given .0 .0) (c .before .before .before .kind .given .0 .1 .0) (c .before .before .before .before .before .token-at .ensures) (c .before .before .before .kind .given .1)), item-ahead (now (c .before .before .before .before .before .before .before .before .before .args .s)) (c .before .before .before .before .before .before .loop .at) (c .before .before .before .before .before .token-at .result) (c .before .before .before .kind .given .0 .0) (c .before .before .before .kind .given .0 .1 .0) (c .before .before .before .before .before .token-at .ensures) (c .before .before .before .kind .given .1) .1, λ p. c .before .before .before .before .before .before .loop .inv .2 p ∙ props-nop (now (c .before .before .before .before .before .before .before .before .before .args .s)) (now (c .before .before .before .before .before .before .before .before .before .args .strings)) (c .before .before .before .before .before .before .loop .at) (c .before .before .before .before .before .before .loop .inv .1) (c .before .before .before .before .before .token-at .result) (c .before .before .before .before .before .token-at .ensures) p (c .before .before .before .kind .given .0 .0) (c .before .before .before .kind .given .0 .1 .0) (c .before .before .before .kind .given .1) (c .enum-told .given .1))
 
-enum-known-kind-2 : tie.Need-enum-known-kind-2 Inv-loop μ-loop
-enum-known-kind-2 c = search needs
+enum-told-2 : tie.Need-enum-told-2 Inv-loop μ-loop
+enum-told-2 c = search needs
+
+add-word : tie.Need-add-word Inv-loop μ-loop
+add-word c = omega (arith, name-offset (now (c .before .before .before .before .before .before .before .before .before .args .s)) (c .before .before .before .before .before .before .loop .at) (c .before .before .before .before .before .token-at .result) (c .before .before .before .kind .given .0 .0) (c .before .before .before .kind .given .0 .1 .0) (c .enum-told2 .given .0 .0) (c .enum-told2 .given .0 .1 .0) (c .enum-told2 .given .0 .1 .1 .0) (c .before .before .before .before .before .token-at .ensures) (c .before .before .before .kind .given .1) (c .enum-told2 .given .1))
+
+word-requires : tie.Need-word-requires Inv-loop μ-loop
+word-requires c κs = search needs
 
 returns-2 : tie.Need-returns-2 Inv-loop μ-loop
 returns-2 c =
     let h = item-ahead (now (c .before .before .before .before .before .before .before .before .before .before .args .s)) (c .before .before .before .before .before .before .before .loop .at) (c .before .before .before .before .before .before .token-at .result) (c .before .before .before .before .kind .given .0 .0) (c .before .before .before .before .kind .given .0 .1 .0) (c .before .before .before .before .before .before .token-at .ensures) (c .before .before .before .before .kind .given .1) in
-    record { value = part (now (c .before .before .before .before .before .before .before .before .before .before .args .s)) (c .before .kind2 .given .0 .1 .1 .0) (c .before .kind2 .given .0 .0); ahead = c .before .before .before .before .before .before .before .loop .inv .0; inside = h .0; within = h .1; list = λ p. c .before .before .before .before .before .before .before .loop .inv .2 p ∙ props-prop (now (c .before .before .before .before .before .before .before .before .before .before .args .s)) (now (c .before .before .before .before .before .before .before .before .before .before .args .strings)) (c .before .before .before .before .before .before .before .loop .at) (c .before .before .before .before .before .before .before .loop .inv .1) (c .before .before .before .before .before .before .token-at .result) (c .before .before .before .before .before .before .token-at .ensures) p (c .before .before .before .before .kind .given .0 .0) (c .before .before .before .before .kind .given .0 .1 .0) (c .before .before .before .before .kind .given .1) (c .before .kind2 .given .0 .0) (c .before .kind2 .given .0 .1 .0) (c .before .kind2 .given .0 .1 .1 .0) (c .before .kind2 .given .1) }
-
-enum-told-2 : tie.Need-enum-told-2 Inv-loop μ-loop
-enum-told-2 c = search needs
-
-returns-3 : tie.Need-returns-3 Inv-loop μ-loop
-returns-3 c = λ p. c .before .before .before .before .before .before .loop .inv .2 p ∙ props-begin (now (c .before .before .before .before .before .before .before .before .before .args .s)) (now (c .before .before .before .before .before .before .before .before .before .args .strings)) (c .before .before .before .before .before .before .loop .at) (c .before .before .before .before .before .before .loop .inv .1) (c .before .before .before .before .before .token-at .result) (c .before .before .before .before .before .token-at .ensures) p (c .before .before .before .kind .given .0 .0) (c .before .before .before .kind .given .0 .1 .0) (c .before .before .before .kind .given .1) _ (c .enum-told2 .given .1)
+    let o = name-offset (now (c .before .before .before .before .before .before .before .before .before .before .args .s)) (c .before .before .before .before .before .before .before .loop .at) (c .before .before .before .before .before .before .token-at .result) (c .before .before .before .before .kind .given .0 .0) (c .before .before .before .before .kind .given .0 .1 .0) (c .before .enum-told2 .given .0 .0) (c .before .enum-told2 .given .0 .1 .0) (c .before .enum-told2 .given .0 .1 .1 .0) (c .before .before .before .before .before .before .token-at .ensures) (c .before .before .before .before .kind .given .1) (c .before .enum-told2 .given .1) in
+    record { value = part (now (c .before .before .before .before .before .before .before .before .before .before .args .s)) (c .before .enum-told2 .given .0 .1 .1 .0) (c .before .enum-told2 .given .0 .0); ahead = c .before .before .before .before .before .before .before .loop .inv .0; inside = h .0; within = h .1; list = λ p. c .before .before .before .before .before .before .before .loop .inv .2 p ∙ props-named (now (c .before .before .before .before .before .before .before .before .before .before .args .s)) (now (c .before .before .before .before .before .before .before .before .before .before .args .strings)) (c .before .before .before .before .before .before .before .loop .at) (c .before .before .before .before .before .before .before .loop .inv .1) (c .before .before .before .before .before .before .token-at .result) (c .before .before .before .before .before .before .token-at .ensures) p (c .before .before .before .before .kind .given .0 .0) (c .before .before .before .before .kind .given .0 .1 .0) (c .before .before .before .before .kind .given .1) (c .before .enum-told2 .given .0 .0) (c .before .enum-told2 .given .0 .1 .0) (c .before .enum-told2 .given .0 .1 .1 .0) (c .word .result) (c .before .enum-told2 .given .1) (c .word .ensures ∙ sym (o .0)) }
 
 enum-told-3 : tie.Need-enum-told-3 Inv-loop μ-loop
 enum-told-3 c = search needs
 
+returns-3 : tie.Need-returns-3 Inv-loop μ-loop
+returns-3 c = λ p. c .before .before .before .before .before .before .loop .inv .2 p ∙ props-begin (now (c .before .before .before .before .before .before .before .before .before .args .s)) (now (c .before .before .before .before .before .before .before .before .before .args .strings)) (c .before .before .before .before .before .before .loop .at) (c .before .before .before .before .before .before .loop .inv .1) (c .before .before .before .before .before .token-at .result) (c .before .before .before .before .before .token-at .ensures) p (c .before .before .before .kind .given .0 .0) (c .before .before .before .kind .given .0 .1 .0) (c .before .before .before .kind .given .1) _ (c .enum-told3 .given .1)
+
+enum-told-4 : tie.Need-enum-told-4 Inv-loop μ-loop
+enum-told-4 c = search needs
+
 returns-4 : tie.Need-returns-4 Inv-loop μ-loop
-returns-4 c = λ p. c .before .before .before .before .before .before .loop .inv .2 p ∙ props-end (now (c .before .before .before .before .before .before .before .before .before .args .s)) (now (c .before .before .before .before .before .before .before .before .before .args .strings)) (c .before .before .before .before .before .before .loop .at) (c .before .before .before .before .before .before .loop .inv .1) (c .before .before .before .before .before .token-at .result) (c .before .before .before .before .before .token-at .ensures) p (c .before .before .before .kind .given .0 .0) (c .before .before .before .kind .given .0 .1 .0) (c .before .before .before .kind .given .1) (c .enum-told3 .given .1)
+returns-4 c = λ p. c .before .before .before .before .before .before .loop .inv .2 p ∙ props-end (now (c .before .before .before .before .before .before .before .before .before .args .s)) (now (c .before .before .before .before .before .before .before .before .before .args .strings)) (c .before .before .before .before .before .before .loop .at) (c .before .before .before .before .before .before .loop .inv .1) (c .before .before .before .before .before .token-at .result) (c .before .before .before .before .before .token-at .ensures) p (c .before .before .before .kind .given .0 .0) (c .before .before .before .kind .given .0 .1 .0) (c .before .before .before .kind .given .1) (c .enum-told4 .given .1)
 
 pub property-at-spec : {M : Type 1} → statement M
-property-at-spec = tie.close (tie.spec Inv-loop μ-loop loop-holds token-at-requires enum-known-kind returns enum-told loop-less loop-again enum-known-kind-2 returns-2 enum-told-2 returns-3 enum-told-3 returns-4)
+property-at-spec = tie.close (tie.spec Inv-loop μ-loop loop-holds token-at-requires enum-known-kind returns enum-told loop-less loop-again enum-told-2 add-word word-requires returns-2 enum-told-3 returns-3 enum-told-4 returns-4)
