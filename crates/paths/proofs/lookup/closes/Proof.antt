@@ -31,7 +31,7 @@ part-same-end : tie.Need-part-same-end
 part-same-end c = search needs
 
 same-requires : tie.Need-same-requires
-same-requires c κs = search needs
+same-requires c κs = tt
 
 returns-3 : tie.Need-returns-3
 returns-3 c = c .same .ensures ∙ sym (closes-name (now (c .before .before .before .before .before .before .before .args .p)) (now (c .before .before .before .before .before .before .before .args .name)) (c .before .before .before .before .before .before .before .args .e) (c .before .before .before .before .before .before .before .pre) (c .before .before .before .before .if1 .left) (c .before .before .if2 .left))

@@ -1,5 +1,5 @@
 -- `has_path` meets its contract. The invariant: what is left of the node's path is the first e bytes of p exactly if the whole is p.
-use mathlib.Core.Path.{_≡_, sym, ap, _∙_}
+use mathlib.Core.Path.{refl, _≡_, sym, ap, _∙_}
 use mathlib.Core.Bool.{true, false}
 use mathlib.Core.List.{_∷_, _++_}
 use Prim.Native.Nat.{ℕ, _+_, _-_, _≤_}
@@ -26,10 +26,10 @@ abbrev μ-loop : tie.MeasureT-loop
 μ-loop structure place work count i p left₀ at₀ e₀ left at e = left
 
 slice-aggregate-same : tie.Need-slice-aggregate-same Inv-loop μ-loop
-slice-aggregate-same c = search needs
+slice-aggregate-same c = refl
 
 same-requires : tie.Need-same-requires Inv-loop μ-loop
-same-requires c κs = search needs
+same-requires c κs = tt
 
 returns : tie.Need-returns Inv-loop μ-loop
 returns c = λ strings. c .same .ensures ∙ sym (ap (λ (x : Bytes). same x (now (c .before .before .before .before .before .before .args .p))) (path-root (treeOf (c .before .before .before .before .before .before .args .place) (now (c .before .before .before .before .before .before .args .structure)) strings (now (c .before .before .before .before .before .before .args .work)) (c .before .before .before .before .before .before .args .count)) (c .before .before .before .before .before .before .args .i) (c .before .before .if1 .taken)))
@@ -46,7 +46,7 @@ returns-2 c =
     ∙ rw (spell-root (treeOf (c .before .before .before .before .before .before .before .args .place) (now (c .before .before .before .before .before .before .before .args .structure)) strings (now (c .before .before .before .before .before .before .before .args .work)) (c .before .before .before .before .before .before .before .args .count)) (c .before .before .loop .left) (c .before .before .loop .at) (c .if2 .taken)) (same-none (now (c .before .before .before .before .before .before .before .args .p)) (now (c .before .before .before .before .before .before .before .args .p)) (c .before .before .loop .e) (c .before .before .loop .inv .0)))
 
 name-requires : tie.Need-name-requires Inv-loop μ-loop
-name-requires c κs = search needs
+name-requires c κs = tt
 
 closes-requires : tie.Need-closes-requires Inv-loop μ-loop
 closes-requires c κs = c .before .before .before .loop .inv .0
@@ -68,7 +68,7 @@ sub-e-2 : tie.Need-sub-e-2 Inv-loop μ-loop
 sub-e-2 c = omega (arith, closes-room (now (c .before .before .before .before .before .before .before .before .before .before .args .p)) (now (c .before .before .name .result)) (c .before .before .before .before .before .loop .e) (c .before .before .before .before .before .loop .inv .0) (sym (c .before .closes .ensures) ∙ un-not-false (c .before .closes .result) (c .if3 .left)))
 
 up-requires : tie.Need-up-requires Inv-loop μ-loop
-up-requires c κs = search needs
+up-requires c κs = tt
 
 sub-left : tie.Need-sub-left Inv-loop μ-loop
 sub-left c = search needs

@@ -27,7 +27,7 @@ loop-holds : tie.Need-loop-holds Inv-loop μ-loop
 loop-holds c = (omega arith, λ strings. among-all (block (c .before .before .before .args .place) (now (c .before .before .before .args .structure)) strings) (now (c .before .before .before .args .work)) (c .before .before .before .args .count) (now (c .before .before .before .args .p)))
 
 has-path-requires : tie.Need-has-path-requires Inv-loop μ-loop
-has-path-requires c κs = search needs
+has-path-requires c κs = tt
 
 returns : tie.Need-returns Inv-loop μ-loop
 returns c = λ strings. sym (c .before .before .before .loop .inv .1 strings ∙ among-here (block (c .before .before .before .before .before .before .before .args .place) (now (c .before .before .before .before .before .before .before .args .structure)) strings) (now (c .before .before .before .before .before .before .before .args .work)) (c .before .before .before .before .before .before .before .args .count) (now (c .before .before .before .before .before .before .before .args .p)) (c .before .before .before .loop .i) (c .before .before .loop-test .taken) (sym (c .before .has-path .ensures strings) ∙ c .if1 .taken))

@@ -22,7 +22,7 @@ returns : tie.Need-returns Inv-loop μ-loop
 returns c = λ b. sym (c .before .before .loop .inv b ∙ climb-root (treeIn b (now (c .before .before .before .before .args .work)) (c .before .before .before .before .args .count)) (c .before .before .loop .left) (c .before .before .before .before .args .p) (c .before .before .loop .at) (c .if1 .taken))
 
 up-requires : tie.Need-up-requires Inv-loop μ-loop
-up-requires c κs = search needs
+up-requires c κs = tt
 
 returns-2 : tie.Need-returns-2 Inv-loop μ-loop
 returns-2 c = λ b. sym (c .before .before .before .before .loop .inv b ∙ climb-hit (treeIn b (now (c .before .before .before .before .before .before .args .work)) (c .before .before .before .before .before .before .args .count)) (c .before .before .before .before .loop .left) (c .before .before .before .before .before .before .args .p) (c .before .before .before .before .loop .at) (c .before .up .result) (c .before .before .before .loop-test .taken) (c .before .before .if1 .left) (c .before .up .ensures b) (c .if2 .taken))

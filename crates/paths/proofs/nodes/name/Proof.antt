@@ -22,13 +22,13 @@ returns : tie.Need-returns
 returns c = λ strings. sym (ap (λ (n : Node). n .name) (node-out (block (c .before .before .before .before .args .place) (now (c .before .before .before .before .args .structure)) strings) (now (c .before .before .before .before .args .work)) (c .before .before .before .before .args .count) (c .before .before .before .before .args .i) (c .before .if1 .taken)))
 
 cell-requires : tie.Need-cell-requires
-cell-requires c κs = search needs
+cell-requires c κs = tt
 
 cast-begin : tie.Need-cast-begin
 cast-begin c = search needs
 
 string-at-requires : tie.Need-string-at-requires
-string-at-requires c κs = search needs
+string-at-requires c κs = tt
 
 returns-2 : tie.Need-returns-2
 returns-2 c =
@@ -42,7 +42,7 @@ add-string-at : tie.Need-add-string-at
 add-string-at c = search needs
 
 string-at-requires-2 : tie.Need-string-at-requires-2
-string-at-requires-2 c κs = search needs
+string-at-requires-2 c κs = tt
 
 returns-3 : tie.Need-returns-3
 returns-3 c =

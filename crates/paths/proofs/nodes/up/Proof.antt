@@ -11,7 +11,7 @@ returns : tie.Need-returns
 returns c = λ b. sym (ap (λ (n : Node). n .parent) (node-out b (now (c .before .before .args .work)) (c .before .before .args .count) (c .before .before .args .i) (c .if1 .taken)))
 
 cell-requires : tie.Need-cell-requires
-cell-requires c κs = search needs
+cell-requires c κs = tt
 
 cast-result : tie.Need-cast-result
 cast-result c = search needs

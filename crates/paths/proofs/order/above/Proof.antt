@@ -5,12 +5,11 @@ use native.Mathlib.Omega.{arith}
 use lib.Dec.{ltb}
 use borrow.Author.Tests.{lt-ltb, le-ltb}
 use Rattle.rules.specs.Octets.{if_then_else_}
-use borrow.Author.Needs.{needs}
 use Rattle.paths.proofs.order.above.Statement.{statement}
 use Rattle.paths.proofs.order.above.Tie as tie
 
 up-requires : tie.Need-up-requires
-up-requires c κs = search needs
+up-requires c κs = tt
 
 returns : tie.Need-returns
 returns c = (

@@ -55,7 +55,7 @@ loop-again : tie.Need-loop-again Inv-loop μ-loop
 loop-again c = (omega arith, c .before .before .before .before .before .loop .inv .1 ∙ name-more (now (c .before .before .before .before .before .before .before .before .args .n)) (now (c .before .before .before .before .before .before .before .before .args .o)) (c .before .before .before .before .before .before .before .before .args .more) (c .before .before .before .before .before .before .before .before .args .other) (c .before .before .before .before .before .loop .k) (c .before .before .before .before .loop-test .taken) (c .before .before .before .if1 .left) (c .if3 .left))
 
 rest-before-requires : tie.Need-rest-before-requires Inv-loop μ-loop
-rest-before-requires c κs = search needs
+rest-before-requires c κs = tt
 
 returns-4 : tie.Need-returns-4 Inv-loop μ-loop
 returns-4 c = c .rest-before .ensures ∙ sym (c .before .before .loop .inv .1 ∙ name-rest (now (c .before .before .before .before .before .args .n)) (now (c .before .before .before .before .before .args .o)) (c .before .before .before .before .before .args .more) (c .before .before .before .before .before .args .other) (c .before .before .loop .k) (c .before .loop-test .left))

@@ -8,7 +8,6 @@ use Rattle.rules.specs.Laws.Paths.{Formed}
 use Rattle.rules.specs.Laws.Tabled.{treeIn, tree-length}
 use Rattle.paths.specs.Order.{Parted}
 use Rattle.paths.proofs.Ways.{both-start, climb-first, climb-second, meet}
-use borrow.Author.Needs.{needs}
 use Rattle.paths.proofs.order.parting.Statement.{statement}
 use Rattle.paths.proofs.order.parting.Tie as tie
 
@@ -25,7 +24,7 @@ loop-holds c =
     (omega (arith, tree-length k (now (c .before .args .work)) (c .before .args .count) 0)) (omega (arith, tree-length k (now (c .before .args .work)) (c .before .args .count) 0))
 
 above-requires : tie.Need-above-requires Inv-loop μ-loop
-above-requires c κs = search needs
+above-requires c κs = tt
 
 loop-less : tie.Need-loop-less Inv-loop μ-loop
 loop-less c = omega (arith, c .above .ensures .1 (omega arith))
@@ -36,7 +35,7 @@ loop-again c =
     (c .before .if1 .taken) (c .above .ensures .0 k) (c .before .before .before .loop .inv k w g h)
 
 above-requires-2 : tie.Need-above-requires-2 Inv-loop μ-loop
-above-requires-2 c κs = search needs
+above-requires-2 c κs = tt
 
 loop-less-2 : tie.Need-loop-less-2 Inv-loop μ-loop
 loop-less-2 c = omega (arith, c .above2 .ensures .1 (omega arith))

@@ -12,7 +12,6 @@ use Rattle.rules.specs.Blob.{Block}
 use Rattle.rules.specs.Laws.Tabled.{treeIn, tree-length}
 use Rattle.paths.specs.Order.{slash}
 use Rattle.paths.proofs.Ways.{order-above, order-below, order-names}
-use borrow.Author.Needs.{needs}
 use Rattle.paths.proofs.order.path_before.Statement.{statement}
 use Rattle.paths.proofs.order.path_before.Tie as tie
 
@@ -20,7 +19,7 @@ abbrev block : ℕ → Bytes → Bytes → Block
 block place structure strings = record { place = place; structure = structure; strings = strings }
 
 parting-requires : tie.Need-parting-requires
-parting-requires c κs = search needs
+parting-requires c κs = tt
 
 returns : tie.Need-returns
 returns c =
@@ -39,13 +38,13 @@ returns-2 c =
     (omega arith) (omega arith) (c .before .before .before .before .parting .ensures k w g h) (c .before .before .if1 .left) (c .if2 .taken))
 
 name-requires : tie.Need-name-requires
-name-requires c κs = search needs
+name-requires c κs = tt
 
 name-requires-2 : tie.Need-name-requires-2
-name-requires-2 c κs = search needs
+name-requires-2 c κs = tt
 
 name-before-requires : tie.Need-name-before-requires
-name-before-requires c κs = search needs
+name-before-requires c κs = tt
 
 returns-3 : tie.Need-returns-3
 returns-3 c =

@@ -45,7 +45,7 @@ returns-3 : tie.Need-returns-3 Inv-loop μ-loop
 returns-3 c = λ strings. omega (arith, c .before .before .loop .inv .2 strings, ap length (spell-root (treeOf (c .before .before .before .before .before .before .before .args .place) (now (c .before .before .before .before .before .before .before .args .structure)) strings (now (c .before .before .before .before .before .before .before .args .work)) (c .before .before .before .before .before .before .before .args .count)) (c .before .before .loop .left) (c .before .before .loop .at) (c .if3 .taken)))
 
 name-requires : tie.Need-name-requires Inv-loop μ-loop
-name-requires c κs = search needs
+name-requires c κs = tt
 
 add-len : tie.Need-add-len Inv-loop μ-loop
 unfolding blobCeiling nodeCeiling
@@ -56,7 +56,7 @@ unfolding blobCeiling nodeCeiling
 add-len-2 c = omega (arith, c .before .before .before .before .before .before .before .before .pre .0, c .before .before .before .before .before .before .before .before .pre .1, c .before .before .before .loop .inv .0, c .before .before .before .loop .inv .1, ap length (c .name .ensures []), name-short (block (c .before .before .before .before .before .before .before .before .args .place) (now (c .before .before .before .before .before .before .before .before .args .structure)) []) (now (c .before .before .before .before .before .before .before .before .args .work)) (c .before .before .before .before .before .before .before .before .args .count) (c .before .before .before .loop .at))
 
 up-requires : tie.Need-up-requires Inv-loop μ-loop
-up-requires c κs = search needs
+up-requires c κs = tt
 
 sub-left : tie.Need-sub-left Inv-loop μ-loop
 sub-left c = search needs

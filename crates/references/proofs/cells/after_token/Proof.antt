@@ -23,10 +23,10 @@ enum-known-kind : tie.Need-enum-known-kind
 enum-known-kind c = search needs
 
 string-at-requires : tie.Need-string-at-requires
-string-at-requires c κs = search needs
+string-at-requires c κs = tt
 
 is-cells-requires : tie.Need-is-cells-requires
-is-cells-requires c κs = search needs
+is-cells-requires c κs = tt
 
 returns : tie.Need-returns
 returns c =
@@ -34,10 +34,10 @@ returns c =
     (ap (isNamed (meaning (c .before .before .before .before .before .before .before .before .args .c))) (sym (c .before .before .string-at .ensures)) ∙ sym (c .before .is-cells .ensures) ∙ un-not (c .before .is-cells .result) (c .if1 .taken))
 
 part-requires : tie.Need-part-requires
-part-requires c κs = search needs
+part-requires c κs = tt
 
 word-requires : tie.Need-word-requires
-word-requires c κs = search needs
+word-requires c κs = tt
 
 returns-2 : tie.Need-returns-2
 returns-2 c = simp (c .enum-told .given .1)

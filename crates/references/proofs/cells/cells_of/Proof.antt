@@ -22,7 +22,7 @@ abbrev μ-loop : tie.MeasureT-loop
 μ-loop structure strings begin c first at₀ at = length structure - at
 
 token-at-requires : tie.Need-token-at-requires Inv-loop μ-loop
-token-at-requires c κs = search needs
+token-at-requires c κs = tt
 
 enum-known-first : tie.Need-enum-known-first Inv-loop μ-loop
 enum-known-first c = search needs
@@ -37,7 +37,7 @@ loop-holds c = (
 )
 
 token-at-requires-2 : tie.Need-token-at-requires-2 Inv-loop μ-loop
-token-at-requires-2 c κs = search needs
+token-at-requires-2 c κs = tt
 
 enum-known-kind : tie.Need-enum-known-kind Inv-loop μ-loop
 enum-known-kind c = search needs
@@ -46,7 +46,7 @@ returns-2 : tie.Need-returns-2 Inv-loop μ-loop
 returns-2 c = λ p. sym (c .before .before .loop .inv .1 p ∙ count-stop (blockOf p (now (c .before .before .before .before .before .before .before .before .before .args .structure)) (now (c .before .before .before .before .before .before .before .before .before .args .strings))) (meaning (c .before .before .before .before .before .before .before .before .before .args .c)) (c .before .before .loop .at) (c .before .token-at2 .result) (c .before .token-at2 .ensures) (c .before .before .loop .inv .0) (c .match2 .keys2))
 
 after-token-requires : tie.Need-after-token-requires Inv-loop μ-loop
-after-token-requires c κs = search needs
+after-token-requires c κs = tt
 
 enum-known-v : tie.Need-enum-known-v Inv-loop μ-loop
 enum-known-v c = search needs

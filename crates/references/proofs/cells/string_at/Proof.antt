@@ -4,15 +4,14 @@ use Prim.Native.Nat.{ℕ}
 use denote.Ref.{now}
 use Rattle.rules.specs.Octets.{part}
 use Rattle.rules.specs.Events.{stringAt}
-use borrow.Author.Needs.{needs}
 use Rattle.references.proofs.cells.string_at.Statement.{statement}
 use Rattle.references.proofs.cells.string_at.Tie as tie
 
 nul-requires : tie.Need-nul-requires
-nul-requires c κs = search needs
+nul-requires c κs = tt
 
 part-requires : tie.Need-part-requires
-part-requires c κs = search needs
+part-requires c κs = tt
 
 returns : tie.Need-returns
 unfolding stringAt

@@ -6,142 +6,141 @@ use Rattle.rules.specs.Octets.{ascii, same}
 use Rattle.rules.specs.Tree.{among}
 use Rattle.rules.specs.References.{cellRows, cellsIn}
 use Rattle.references.proofs.Names.{known, allNames, past-rows}
-use borrow.Author.Needs.{needs}
 use Rattle.references.proofs.rows.cells_name.Statement.{statement}
 use Rattle.references.proofs.rows.cells_name.Tie as tie
 
 slice-aggregate-same : tie.Need-slice-aggregate-same
-slice-aggregate-same c = search needs
+slice-aggregate-same c = refl
 
 same-requires : tie.Need-same-requires
-same-requires c κs = search needs
+same-requires c κs = tt
 
 returns : tie.Need-returns
 unfolding cellsIn cellRows among ascii same
 returns c = known (cellsIn cellRows) (now (c .before .before .before .before .args .name)) (ascii "clocks") _ _ (c .before .same .ensures) (c .if1 .taken) refl
 
 slice-aggregate-same-2 : tie.Need-slice-aggregate-same-2
-slice-aggregate-same-2 c = search needs
+slice-aggregate-same-2 c = refl
 
 same-requires-2 : tie.Need-same-requires-2
-same-requires-2 c κs = search needs
+same-requires-2 c κs = tt
 
 returns-2 : tie.Need-returns-2
 unfolding cellsIn cellRows among ascii same
 returns-2 c = known (cellsIn cellRows) (now (c .before .before .before .before .before .before .before .args .name)) (ascii "assigned-clocks") _ _ (c .before .same2 .ensures) (c .if2 .taken) refl
 
 slice-aggregate-same-3 : tie.Need-slice-aggregate-same-3
-slice-aggregate-same-3 c = search needs
+slice-aggregate-same-3 c = refl
 
 same-requires-3 : tie.Need-same-requires-3
-same-requires-3 c κs = search needs
+same-requires-3 c κs = tt
 
 returns-3 : tie.Need-returns-3
 unfolding cellsIn cellRows among ascii same
 returns-3 c = known (cellsIn cellRows) (now (c .before .before .before .before .before .before .before .before .before .before .args .name)) (ascii "resets") _ _ (c .before .same3 .ensures) (c .if3 .taken) refl
 
 slice-aggregate-same-4 : tie.Need-slice-aggregate-same-4
-slice-aggregate-same-4 c = search needs
+slice-aggregate-same-4 c = refl
 
 same-requires-4 : tie.Need-same-requires-4
-same-requires-4 c κs = search needs
+same-requires-4 c κs = tt
 
 returns-4 : tie.Need-returns-4
 unfolding cellsIn cellRows among ascii same
 returns-4 c = known (cellsIn cellRows) (now (c .before .before .before .before .before .before .before .before .before .before .before .before .before .args .name)) (ascii "power-domains") _ _ (c .before .same4 .ensures) (c .if4 .taken) refl
 
 slice-aggregate-same-5 : tie.Need-slice-aggregate-same-5
-slice-aggregate-same-5 c = search needs
+slice-aggregate-same-5 c = refl
 
 same-requires-5 : tie.Need-same-requires-5
-same-requires-5 c κs = search needs
+same-requires-5 c κs = tt
 
 returns-5 : tie.Need-returns-5
 unfolding cellsIn cellRows among ascii same
 returns-5 c = known (cellsIn cellRows) (now (c .before .before .before .before .before .before .before .before .before .before .before .before .before .before .before .before .args .name)) (ascii "phys") _ _ (c .before .same5 .ensures) (c .if5 .taken) refl
 
 slice-aggregate-same-6 : tie.Need-slice-aggregate-same-6
-slice-aggregate-same-6 c = search needs
+slice-aggregate-same-6 c = refl
 
 same-requires-6 : tie.Need-same-requires-6
-same-requires-6 c κs = search needs
+same-requires-6 c κs = tt
 
 returns-6 : tie.Need-returns-6
 unfolding cellsIn cellRows among ascii same
 returns-6 c = known (cellsIn cellRows) (now (c .before .before .before .before .before .before .before .before .before .before .before .before .before .before .before .before .before .before .before .args .name)) (ascii "interrupts") _ _ (c .before .same6 .ensures) (c .if6 .taken) refl
 
 slice-aggregate-same-7 : tie.Need-slice-aggregate-same-7
-slice-aggregate-same-7 c = search needs
+slice-aggregate-same-7 c = refl
 
 same-requires-7 : tie.Need-same-requires-7
-same-requires-7 c κs = search needs
+same-requires-7 c κs = tt
 
 returns-7 : tie.Need-returns-7
 unfolding cellsIn cellRows among ascii same
 returns-7 c = known (cellsIn cellRows) (now (c .before .before .before .before .before .before .before .before .before .before .before .before .before .before .before .before .before .before .before .before .before .before .args .name)) (ascii "interrupts-extended") _ _ (c .before .same7 .ensures) (c .if7 .taken) refl
 
 slice-aggregate-same-8 : tie.Need-slice-aggregate-same-8
-slice-aggregate-same-8 c = search needs
+slice-aggregate-same-8 c = refl
 
 same-requires-8 : tie.Need-same-requires-8
-same-requires-8 c κs = search needs
+same-requires-8 c κs = tt
 
 returns-8 : tie.Need-returns-8
 unfolding cellsIn cellRows among ascii same
 returns-8 c = known (cellsIn cellRows) (now (c .before .before .before .before .before .before .before .before .before .before .before .before .before .before .before .before .before .before .before .before .before .before .before .before .before .args .name)) (ascii "gpios") _ _ (c .before .same8 .ensures) (c .if8 .taken) refl
 
 slice-aggregate-same-9 : tie.Need-slice-aggregate-same-9
-slice-aggregate-same-9 c = search needs
+slice-aggregate-same-9 c = refl
 
 same-requires-9 : tie.Need-same-requires-9
-same-requires-9 c κs = search needs
+same-requires-9 c κs = tt
 
 returns-9 : tie.Need-returns-9
 unfolding cellsIn cellRows among ascii same
 returns-9 c = known (cellsIn cellRows) (now (c .before .before .before .before .before .before .before .before .before .before .before .before .before .before .before .before .before .before .before .before .before .before .before .before .before .before .before .before .args .name)) (ascii "dmas") _ _ (c .before .same9 .ensures) (c .if9 .taken) refl
 
 slice-aggregate-same-10 : tie.Need-slice-aggregate-same-10
-slice-aggregate-same-10 c = search needs
+slice-aggregate-same-10 c = refl
 
 same-requires-10 : tie.Need-same-requires-10
-same-requires-10 c κs = search needs
+same-requires-10 c κs = tt
 
 returns-10 : tie.Need-returns-10
 unfolding cellsIn cellRows among ascii same
 returns-10 c = known (cellsIn cellRows) (now (c .before .before .before .before .before .before .before .before .before .before .before .before .before .before .before .before .before .before .before .before .before .before .before .before .before .before .before .before .before .before .before .args .name)) (ascii "thermal-sensors") _ _ (c .before .same10 .ensures) (c .if10 .taken) refl
 
 slice-aggregate-same-11 : tie.Need-slice-aggregate-same-11
-slice-aggregate-same-11 c = search needs
+slice-aggregate-same-11 c = refl
 
 same-requires-11 : tie.Need-same-requires-11
-same-requires-11 c κs = search needs
+same-requires-11 c κs = tt
 
 returns-11 : tie.Need-returns-11
 unfolding cellsIn cellRows among ascii same
 returns-11 c = known (cellsIn cellRows) (now (c .before .before .before .before .before .before .before .before .before .before .before .before .before .before .before .before .before .before .before .before .before .before .before .before .before .before .before .before .before .before .before .before .before .before .args .name)) (ascii "sound-dai") _ _ (c .before .same11 .ensures) (c .if11 .taken) refl
 
 slice-aggregate-same-12 : tie.Need-slice-aggregate-same-12
-slice-aggregate-same-12 c = search needs
+slice-aggregate-same-12 c = refl
 
 same-requires-12 : tie.Need-same-requires-12
-same-requires-12 c κs = search needs
+same-requires-12 c κs = tt
 
 returns-12 : tie.Need-returns-12
 unfolding cellsIn cellRows among ascii same
 returns-12 c = known (cellsIn cellRows) (now (c .before .before .before .before .before .before .before .before .before .before .before .before .before .before .before .before .before .before .before .before .before .before .before .before .before .before .before .before .before .before .before .before .before .before .before .before .before .args .name)) (ascii "mboxes") _ _ (c .before .same12 .ensures) (c .if12 .taken) refl
 
 slice-aggregate-same-13 : tie.Need-slice-aggregate-same-13
-slice-aggregate-same-13 c = search needs
+slice-aggregate-same-13 c = refl
 
 same-requires-13 : tie.Need-same-requires-13
-same-requires-13 c κs = search needs
+same-requires-13 c κs = tt
 
 returns-13 : tie.Need-returns-13
 unfolding cellsIn cellRows among ascii same
 returns-13 c = known (cellsIn cellRows) (now (c .before .before .before .before .before .before .before .before .before .before .before .before .before .before .before .before .before .before .before .before .before .before .before .before .before .before .before .before .before .before .before .before .before .before .before .before .before .before .before .before .args .name)) (ascii "pwms") _ _ (c .before .same13 .ensures) (c .if13 .taken) refl
 
 is-gpio-requires : tie.Need-is-gpio-requires
-is-gpio-requires c κs = search needs
+is-gpio-requires c κs = tt
 
 returns-14 : tie.Need-returns-14
 unfolding cellRows among ascii

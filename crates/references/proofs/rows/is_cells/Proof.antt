@@ -10,100 +10,100 @@ enum-told : tie.Need-enum-told
 enum-told c = search needs
 
 slice-aggregate-same : tie.Need-slice-aggregate-same
-slice-aggregate-same c = search needs
+slice-aggregate-same c = refl
 
 same-requires : tie.Need-same-requires
-same-requires c κs = search needs
+same-requires c κs = tt
 
 enum-told-2 : tie.Need-enum-told-2
 enum-told-2 c = search needs
 
 slice-aggregate-same-2 : tie.Need-slice-aggregate-same-2
-slice-aggregate-same-2 c = search needs
+slice-aggregate-same-2 c = refl
 
 same-requires-2 : tie.Need-same-requires-2
-same-requires-2 c κs = search needs
+same-requires-2 c κs = tt
 
 enum-told-3 : tie.Need-enum-told-3
 enum-told-3 c = search needs
 
 slice-aggregate-same-3 : tie.Need-slice-aggregate-same-3
-slice-aggregate-same-3 c = search needs
+slice-aggregate-same-3 c = refl
 
 same-requires-3 : tie.Need-same-requires-3
-same-requires-3 c κs = search needs
+same-requires-3 c κs = tt
 
 enum-told-4 : tie.Need-enum-told-4
 enum-told-4 c = search needs
 
 slice-aggregate-same-4 : tie.Need-slice-aggregate-same-4
-slice-aggregate-same-4 c = search needs
+slice-aggregate-same-4 c = refl
 
 same-requires-4 : tie.Need-same-requires-4
-same-requires-4 c κs = search needs
+same-requires-4 c κs = tt
 
 enum-told-5 : tie.Need-enum-told-5
 enum-told-5 c = search needs
 
 slice-aggregate-same-5 : tie.Need-slice-aggregate-same-5
-slice-aggregate-same-5 c = search needs
+slice-aggregate-same-5 c = refl
 
 same-requires-5 : tie.Need-same-requires-5
-same-requires-5 c κs = search needs
+same-requires-5 c κs = tt
 
 enum-told-6 : tie.Need-enum-told-6
 enum-told-6 c = search needs
 
 slice-aggregate-same-6 : tie.Need-slice-aggregate-same-6
-slice-aggregate-same-6 c = search needs
+slice-aggregate-same-6 c = refl
 
 same-requires-6 : tie.Need-same-requires-6
-same-requires-6 c κs = search needs
+same-requires-6 c κs = tt
 
 enum-told-7 : tie.Need-enum-told-7
 enum-told-7 c = search needs
 
 slice-aggregate-same-7 : tie.Need-slice-aggregate-same-7
-slice-aggregate-same-7 c = search needs
+slice-aggregate-same-7 c = refl
 
 same-requires-7 : tie.Need-same-requires-7
-same-requires-7 c κs = search needs
+same-requires-7 c κs = tt
 
 enum-told-8 : tie.Need-enum-told-8
 enum-told-8 c = search needs
 
 slice-aggregate-same-8 : tie.Need-slice-aggregate-same-8
-slice-aggregate-same-8 c = search needs
+slice-aggregate-same-8 c = refl
 
 same-requires-8 : tie.Need-same-requires-8
-same-requires-8 c κs = search needs
+same-requires-8 c κs = tt
 
 enum-told-9 : tie.Need-enum-told-9
 enum-told-9 c = search needs
 
 slice-aggregate-same-9 : tie.Need-slice-aggregate-same-9
-slice-aggregate-same-9 c = search needs
+slice-aggregate-same-9 c = refl
 
 same-requires-9 : tie.Need-same-requires-9
-same-requires-9 c κs = search needs
+same-requires-9 c κs = tt
 
 enum-told-10 : tie.Need-enum-told-10
 enum-told-10 c = search needs
 
 slice-aggregate-same-10 : tie.Need-slice-aggregate-same-10
-slice-aggregate-same-10 c = search needs
+slice-aggregate-same-10 c = refl
 
 same-requires-10 : tie.Need-same-requires-10
-same-requires-10 c κs = search needs
+same-requires-10 c κs = tt
 
 enum-told-11 : tie.Need-enum-told-11
 enum-told-11 c = search needs
 
 slice-aggregate-same-11 : tie.Need-slice-aggregate-same-11
-slice-aggregate-same-11 c = search needs
+slice-aggregate-same-11 c = refl
 
 same-requires-11 : tie.Need-same-requires-11
-same-requires-11 c κs = search needs
+same-requires-11 c κs = tt
 
 enum-told-12 : tie.Need-enum-told-12
 enum-told-12 c = search needs

@@ -1,25 +1,25 @@
 -- `is_gpio` meets its contract: the two endings.
+use mathlib.Core.Path.{refl}
 use Rattle.rules.specs.Octets.{ascii}
 use Rattle.rules.specs.References.{isGpio}
-use borrow.Author.Needs.{needs}
 use Rattle.references.proofs.rows.is_gpio.Statement.{statement}
 use Rattle.references.proofs.rows.is_gpio.Tie as tie
 
 slice-aggregate-ends : tie.Need-slice-aggregate-ends
-slice-aggregate-ends c = search needs
+slice-aggregate-ends c = refl
 
 ends-requires : tie.Need-ends-requires
-ends-requires c κs = search needs
+ends-requires c κs = tt
 
 returns : tie.Need-returns
 unfolding isGpio ascii
 returns c = simp (← c .before .ends .ensures, c .if1 .taken)
 
 slice-aggregate-ends-2 : tie.Need-slice-aggregate-ends-2
-slice-aggregate-ends-2 c = search needs
+slice-aggregate-ends-2 c = refl
 
 ends-requires-2 : tie.Need-ends-requires-2
-ends-requires-2 c κs = search needs
+ends-requires-2 c κs = tt
 
 returns-2 : tie.Need-returns-2
 unfolding isGpio ascii

@@ -8,85 +8,84 @@ use Rattle.rules.specs.Tree.{among}
 use Rattle.rules.specs.References.{referenceNames}
 use Rattle.rules.specs.Laws.Tests.{or-nothing}
 use Rattle.references.proofs.Names.{known}
-use borrow.Author.Needs.{needs}
 use Rattle.references.proofs.rows.is_provided.Statement.{statement}
 use Rattle.references.proofs.rows.is_provided.Tie as tie
 
 slice-aggregate-same : tie.Need-slice-aggregate-same
-slice-aggregate-same c = search needs
+slice-aggregate-same c = refl
 
 same-requires : tie.Need-same-requires
-same-requires c κs = search needs
+same-requires c κs = tt
 
 returns : tie.Need-returns
 unfolding among referenceNames ascii same
 returns c = known (λ (n : Bytes). among n (take 8 referenceNames)) (now (c .before .before .before .before .args .name)) (ascii "clocks") _ true (c .before .same .ensures) (c .if1 .taken) refl
 
 slice-aggregate-same-2 : tie.Need-slice-aggregate-same-2
-slice-aggregate-same-2 c = search needs
+slice-aggregate-same-2 c = refl
 
 same-requires-2 : tie.Need-same-requires-2
-same-requires-2 c κs = search needs
+same-requires-2 c κs = tt
 
 returns-2 : tie.Need-returns-2
 unfolding among referenceNames ascii same
 returns-2 c = known (λ (n : Bytes). among n (take 8 referenceNames)) (now (c .before .before .before .before .before .before .before .args .name)) (ascii "power-domains") _ true (c .before .same2 .ensures) (c .if2 .taken) refl
 
 slice-aggregate-same-3 : tie.Need-slice-aggregate-same-3
-slice-aggregate-same-3 c = search needs
+slice-aggregate-same-3 c = refl
 
 same-requires-3 : tie.Need-same-requires-3
-same-requires-3 c κs = search needs
+same-requires-3 c κs = tt
 
 returns-3 : tie.Need-returns-3
 unfolding among referenceNames ascii same
 returns-3 c = known (λ (n : Bytes). among n (take 8 referenceNames)) (now (c .before .before .before .before .before .before .before .before .before .before .args .name)) (ascii "phys") _ true (c .before .same3 .ensures) (c .if3 .taken) refl
 
 slice-aggregate-same-4 : tie.Need-slice-aggregate-same-4
-slice-aggregate-same-4 c = search needs
+slice-aggregate-same-4 c = refl
 
 same-requires-4 : tie.Need-same-requires-4
-same-requires-4 c κs = search needs
+same-requires-4 c κs = tt
 
 returns-4 : tie.Need-returns-4
 unfolding among referenceNames ascii same
 returns-4 c = known (λ (n : Bytes). among n (take 8 referenceNames)) (now (c .before .before .before .before .before .before .before .before .before .before .before .before .before .args .name)) (ascii "resets") _ true (c .before .same4 .ensures) (c .if4 .taken) refl
 
 slice-aggregate-same-5 : tie.Need-slice-aggregate-same-5
-slice-aggregate-same-5 c = search needs
+slice-aggregate-same-5 c = refl
 
 same-requires-5 : tie.Need-same-requires-5
-same-requires-5 c κs = search needs
+same-requires-5 c κs = tt
 
 returns-5 : tie.Need-returns-5
 unfolding among referenceNames ascii same
 returns-5 c = known (λ (n : Bytes). among n (take 8 referenceNames)) (now (c .before .before .before .before .before .before .before .before .before .before .before .before .before .before .before .before .args .name)) (ascii "dmas") _ true (c .before .same5 .ensures) (c .if5 .taken) refl
 
 slice-aggregate-same-6 : tie.Need-slice-aggregate-same-6
-slice-aggregate-same-6 c = search needs
+slice-aggregate-same-6 c = refl
 
 same-requires-6 : tie.Need-same-requires-6
-same-requires-6 c κs = search needs
+same-requires-6 c κs = tt
 
 returns-6 : tie.Need-returns-6
 unfolding among referenceNames ascii same
 returns-6 c = known (λ (n : Bytes). among n (take 8 referenceNames)) (now (c .before .before .before .before .before .before .before .before .before .before .before .before .before .before .before .before .before .before .before .args .name)) (ascii "thermal-sensors") _ true (c .before .same6 .ensures) (c .if6 .taken) refl
 
 slice-aggregate-same-7 : tie.Need-slice-aggregate-same-7
-slice-aggregate-same-7 c = search needs
+slice-aggregate-same-7 c = refl
 
 same-requires-7 : tie.Need-same-requires-7
-same-requires-7 c κs = search needs
+same-requires-7 c κs = tt
 
 returns-7 : tie.Need-returns-7
 unfolding among referenceNames ascii same
 returns-7 c = known (λ (n : Bytes). among n (take 8 referenceNames)) (now (c .before .before .before .before .before .before .before .before .before .before .before .before .before .before .before .before .before .before .before .before .before .before .args .name)) (ascii "mboxes") _ true (c .before .same7 .ensures) (c .if7 .taken) refl
 
 slice-aggregate-same-8 : tie.Need-slice-aggregate-same-8
-slice-aggregate-same-8 c = search needs
+slice-aggregate-same-8 c = refl
 
 same-requires-8 : tie.Need-same-requires-8
-same-requires-8 c κs = search needs
+same-requires-8 c κs = tt
 
 returns-8 : tie.Need-returns-8
 unfolding among referenceNames ascii

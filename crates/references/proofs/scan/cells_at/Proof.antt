@@ -11,13 +11,13 @@ use Rattle.references.proofs.scan.cells_at.Statement.{statement}
 use Rattle.references.proofs.scan.cells_at.Tie as tie
 
 cell-requires : tie.Need-cell-requires
-cell-requires c κs = search needs
+cell-requires c κs = tt
 
 cast-begin : tie.Need-cast-begin
 cast-begin c = search needs
 
 cells-of-requires : tie.Need-cells-of-requires
-cells-of-requires c κs = search needs
+cells-of-requires c κs = tt
 
 cast-result : tie.Need-cast-result
 cast-result c = search needs
@@ -28,7 +28,7 @@ returns c =
     c .cells-of .ensures (c .before .before .before .before .before .before .args .place) ∙ ap (λ (at : ℕ). countNamed (meaning (c .before .before .before .before .before .before .args .c)) (propsAt (blockOf (c .before .before .before .before .before .before .args .place) (now (c .before .before .before .before .before .before .args .structure)) (now (c .before .before .before .before .before .before .args .strings))) at)) e
 
 cells-of-requires-2 : tie.Need-cells-of-requires-2
-cells-of-requires-2 c κs = search needs
+cells-of-requires-2 c κs = tt
 
 cast-result-2 : tie.Need-cast-result-2
 cast-result-2 c = search needs

@@ -32,19 +32,19 @@ mul-word : tie.Need-mul-word Inv-loop μ-loop
 mul-word c = search needs
 
 word-requires : tie.Need-word-requires Inv-loop μ-loop
-word-requires c κs = search needs
+word-requires c κs = tt
 
 node-of-requires : tie.Need-node-of-requires Inv-loop μ-loop
-node-of-requires c κs = search needs
+node-of-requires c κs = tt
 
 enum-known-m : tie.Need-enum-known-m Inv-loop μ-loop
 enum-known-m c = search needs
 
 cells-at-requires : tie.Need-cells-at-requires Inv-loop μ-loop
-cells-at-requires c κs = search needs
+cells-at-requires c κs = tt
 
 refers-requires : tie.Need-refers-requires Inv-loop μ-loop
-refers-requires c κs = search needs
+refers-requires c κs = tt
 
 returns-2 : tie.Need-returns-2 Inv-loop μ-loop
 returns-2 c =

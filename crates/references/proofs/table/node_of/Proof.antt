@@ -19,7 +19,7 @@ loop-holds : tie.Need-loop-holds Inv-loop μ-loop
 loop-holds c = (omega arith, look-all (now (c .before .args .work)) (c .before .args .count) (c .before .args .phandle))
 
 has-requires : tie.Need-has-requires Inv-loop μ-loop
-has-requires c κs = search needs
+has-requires c κs = tt
 
 returns : tie.Need-returns Inv-loop μ-loop
 returns c = sym (c .before .before .before .loop .inv .1 ∙ look-hit (now (c .before .before .before .before .before .args .work)) (c .before .before .before .before .before .args .count) (c .before .before .before .before .before .args .phandle) (c .before .before .before .loop .i) (c .before .before .loop-test .taken) (sym (c .before .has .ensures) ∙ c .if1 .taken))
