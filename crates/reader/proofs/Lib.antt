@@ -2,3 +2,5 @@
 pub mod Heads
 pub mod Steps
 pub mod Walks
+pub mod Unique
+pub mod Rows

@@ -23,6 +23,8 @@ pub mod Secrecy
 pub mod Refusals
 pub mod Copy
 pub mod Nested
+pub mod Table
+pub mod Places
 pub mod Sieve
 pub mod Guest
 pub mod Moved

@@ -1,0 +1,4 @@
+-- How the passes' answers are read, and what one token does in each. What is refused is said in rules: Tree.
+pub mod Passes
+pub mod Cells
+pub mod Rows

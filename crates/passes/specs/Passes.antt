@@ -1,0 +1,28 @@
+-- The nodes that a pass walks over, and its answer as a verdict.
+use mathlib.Core.List.{List}
+use Prim.Native.Nat.{ℕ, _+_, _≤_}
+use lib.ListN.{length}
+use Rattle.rules.specs.Octets.{Bytes}
+use Rattle.rules.specs.Outcome.{Verdict, refuses, passes}
+use Rattle.rules.specs.Blob.{Block}
+use Rattle.rules.specs.Events.{eventsIn}
+use Rattle.rules.specs.Tree.{Tree, nodesOf}
+use Rattle.passes.specs.declared.Found.{Found}
+use Rattle.passes.specs.declared.Found.the-variants.{Nothing, At}
+
+-- a structure and its strings, and where the structure stands in the blob
+abbrev pub blockOf : (s strings : Bytes) (place : ℕ) → Block
+blockOf s strings place = record { place = place; structure = s; strings = strings }
+
+abbrev pub nodesIn : (s strings : Bytes) (place : ℕ) → Tree
+nodesIn s strings place = nodesOf (eventsIn (blockOf s strings place))
+
+-- an answer, which counts from the start of the structure, as a verdict, which counts from the start of the blob
+abbrev pub verdict : (number place : ℕ) → Found → Verdict
+verdict number place Nothing = passes
+verdict number place (At at) = refuses number (place + at)
+
+-- a token stands there
+abbrev pub Inside : Bytes → Found → Type 0
+Inside s Nothing = Unit {0}
+Inside s (At at) = at + 4 ≤ length s
