@@ -2,3 +2,6 @@
 pub mod Turns
 pub mod Watched
 pub mod Phandles
+pub mod Doubles
+pub mod Twins
+pub mod Chunks

@@ -26,8 +26,8 @@ use Rattle.rules.specs.Laws.Tests.{by-test}
 use Rattle.passes.specs.declared.shared.Row.{Row}
 use Rattle.passes.specs.declared.shared.Row.the-variants.{Go, Fault}
 use Rattle.passes.specs.Rows.{rowHas, rowBelow, rowGiven, rowsFrom, passed, rowGive, rowProp, rowTurn}
-use Rattle.passes.specs.Passes.{blockOf, nodesIn}
-use Rattle.passes.proofs.Turns.{eventsAt, events-all, events-item, events-stop}
+use Rattle.passes.specs.Passes.{blockOf, nodesIn, eventsAt}
+use Rattle.passes.proofs.Turns.{events-all, events-item, events-stop}
 
 -- ---- a search that counts up
 

@@ -14,11 +14,8 @@ use Rattle.rules.specs.Events.{Event, saying, eventsOf, eventsIn}
 use Rattle.rules.specs.declared.Token.{Token}
 use Rattle.rules.specs.declared.Token.the-variants.{Item, End, Cut}
 use Rattle.rules.specs.declared.Kind.{Kind}
+use Rattle.passes.specs.Passes.{eventsAt}
 use Rattle.rules.specs.Laws.Tokens.{item-ahead, tokensAt, tokens-all, tokens-item, tokens-end, tokens-cut}
-
--- the events from a place of the structure on
-unfoldable pub eventsAt : Block → ℕ → List Event
-eventsAt b at = eventsOf b (tokensAt (b .structure) at)
 
 pub events-all : (b : Block) → eventsAt b 0 ≡ eventsIn b
 unfolding eventsAt eventsIn

@@ -29,8 +29,8 @@ use Rattle.passes.specs.declared.cells.Turn.{Turn}
 use Rattle.passes.specs.declared.cells.Turn.the-variants.{Go, Fault}
 use Rattle.passes.proofs.cells.Seen as seens
 use Rattle.passes.specs.Cells.{had, onGiven, onProperty, onHas, onKind}
-use Rattle.passes.specs.Passes.{blockOf, nodesIn}
-use Rattle.passes.proofs.Turns.{eventsAt, events-all, events-item, events-stop}
+use Rattle.passes.specs.Passes.{blockOf, nodesIn, eventsAt}
+use Rattle.passes.proofs.Turns.{events-all, events-item, events-stop}
 
 -- ---- names
 

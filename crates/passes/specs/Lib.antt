@@ -2,3 +2,6 @@
 pub mod Passes
 pub mod Cells
 pub mod Rows
+pub mod Sorted
+pub mod Props
+pub mod Siblings

@@ -23,8 +23,6 @@ pub mod Secrecy
 pub mod Refusals
 pub mod Copy
 pub mod Nested
-pub mod Table
-pub mod Places
 pub mod Sieve
 pub mod Guest
 pub mod Moved
@@ -34,3 +32,5 @@ pub mod ReadBack
 pub mod BlobBack
 pub mod GuestCopy
 pub mod Trips
+pub mod Places
+pub mod Table

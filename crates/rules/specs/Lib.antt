@@ -12,6 +12,7 @@ pub mod Events
 pub mod Tree
 pub mod Reader
 pub mod Written
+pub mod Grammar
 pub mod References
 pub mod Listing
 pub mod Copy

@@ -140,7 +140,7 @@ unfolding nodesFrom
 first-up (finished z) = refl
 first-up (root z e t) = refl
 
-module _ (r : Rules) (host : Bytes) (q : Request) (g : Granted r host q) where
+module _ (r : Rules) (host : Bytes) (q : Request) (g : Granted host q) where
   abbrev t : Tree
   t = treeRead host
 

@@ -5,3 +5,8 @@ pub mod Finish
 pub mod Trip
 pub mod Spelled
 pub mod Again
+pub mod Places
+pub mod Derived
+pub mod Found
+pub mod Parsed
+pub mod Exact

@@ -1,19 +1,18 @@
 -- "Writing what was read, given room and reservations that pass 27, 28 and 33, yields the same": the calls that an accepted blob's
 -- events spell leave a blob that reads the same; and the guest is what the writer leaves.
 use mathlib.Core.Path.{_≡_, refl, sym, ap, _∙_}
-use mathlib.Core.Bool.{Bool, true, false, not}
+use mathlib.Core.Bool.{Bool, false}
 use mathlib.Core.List.{List, [], _∷_}
-use Prim.Native.Nat.{ℕ, _+_, _*_, _≤_, _<_, min}
+use Prim.Native.Nat.{ℕ, _+_, _≤_, _<_}
 use native.Mathlib.Omega.{arith}
-use lib.Dec.{eqb, ltb}
 use lib.ListN.{length, take}
 use lib.Seq.{take-length}
 use borrow.Author.Tests.{eq-eqb, le-ltb}
-use Rattle.rules.specs.Ceilings.{blobCeiling, openCeiling, reservationCeiling}
+use Rattle.rules.specs.Ceilings.{reservationCeiling}
 use Rattle.rules.specs.Octets.{Bytes, AreBytes}
-use Rattle.rules.specs.Outcome.{Outcome, gives, refuses, passes, _then_}
+use Rattle.rules.specs.Outcome.{Outcome, gives, refuses, passes}
 use Rattle.rules.specs.Reservations.{Entry, anyInvalid, overlapping, sortedFrom, neighbours}
-use Rattle.rules.specs.Writer.{State, room, total, startBytes, startJudged, start, startData, setBootCpu, finishJudged, finish, finishData}
+use Rattle.rules.specs.Writer.{room, total, startBytes, startJudged, start, startData, setBootCpu, finishJudged, finish, finishData}
 use Rattle.rules.specs.Written.{Blocks, writeEvents, blobWith, blobOf, Call, bootCpu, Desk, call, run, finished, started, written, spelled}
 use Rattle.rules.specs.Blob.{headerIn, blockIn}
 use Rattle.rules.specs.Events.{Event, eventsJudged}
@@ -30,9 +29,9 @@ use Rattle.rules.specs.Laws.Guest.{guest-fits}
 use Rattle.rules.specs.Laws.BlobBack.{reads-back}
 use Rattle.rules.specs.Laws.ReadBack.{structureOf, stringsOf, writes}
 use Rattle.rules.specs.Laws.Trips.Tests.{none-fails, roomy, first-passes, startTests, start-tests, finishTests, finish-tests}
-use Rattle.rules.specs.Laws.Trips.Calls.{Held, call-held, run-on, goes-on}
-use Rattle.rules.specs.Laws.Trips.Finish.{nothing, start-held, length-start, length-with, finish-held}
-use Rattle.rules.specs.Laws.Trips.Spelled.{Ready, Ran, Fitting, possible, next-place, next-string, spelled-runs}
+use Rattle.rules.specs.Laws.Trips.Calls.{boot-held, run-on, goes-on}
+use Rattle.rules.specs.Laws.Trips.Finish.{nothing, start-held, length-with, finish-held}
+use Rattle.rules.specs.Laws.Trips.Spelled.{Ready, Fitting, possible, next-place, next-string, spelled-runs}
 
 -- ---- finishing is accepted
 
@@ -86,7 +85,8 @@ module _ (rs : List Entry) (cpu n m : ℕ) (es : List Event) (passed : eventsJud
 
 -- ---- from start to finish
 
-start-accepted : (rs : List Entry) (lent : ℕ) → anyInvalid rs ≡ false → overlapping rs ≡ false → length rs ≤ reservationCeiling → length (startBytes rs) ≤ room lent
+start-accepted : (rs : List Entry) (lent : ℕ) → anyInvalid rs ≡ false → overlapping rs ≡ false → length rs ≤ reservationCeiling
+    → length (startBytes rs) ≤ room lent
     → startJudged lent rs (length rs) ≡ passes
 start-accepted rs lent v o c f =
     start-tests lent rs (length rs)
@@ -102,7 +102,7 @@ boot-ready rs cpu n m d r =
       e,
       refl,
       record {
-        held = record { structure = h .structure; dataFits = h .dataFits; dataHeld = h .dataHeld; stringsFit = h .stringsFit; stringsHeld = h .stringsHeld; boot = refl };
+        held = boot-held rs 0 cpu nothing d h;
         deep = r .deep;
         past = r .past;
         going = r .going;
@@ -154,7 +154,8 @@ module _ (rs : List Entry) (lent strings : Bytes) (phandles : List ℕ) (started
       → length (stringsAfter es) ≤ room (length strings) → written rs lent strings phandles (bootCpu cpu ∷ spelled 0 es) ≡ gives (blobOf rs cpu es)
   boot-written cpu es p f g =
       let b = boot-ready rs cpu (length lent) (length strings) desk start-ready in
-      let r : run (bootCpu cpu ∷ spelled 0 es) desk ≡ run (spelled 0 es) (b .0) = run-on (bootCpu cpu) (spelled 0 es) desk ∙ ap (goes-on (run (spelled 0 es))) (b .1) in
+      let r : run (bootCpu cpu ∷ spelled 0 es) desk ≡ run (spelled 0 es) (b .0) =
+      run-on (bootCpu cpu) (spelled 0 es) desk ∙ ap (goes-on (run (spelled 0 es))) (b .1) in
       written-is (bootCpu cpu ∷ spelled 0 es) ∙ ap after-run r ∙ spelled-leaves rs cpu (length lent) (length strings) es p f g (b .0) (b .2)
 
 -- ---- what was read

@@ -1,20 +1,15 @@
 -- What calls leave: after each call that is accepted the desk holds the bytes of the events said so far, and the finished blob is theirs.
 use mathlib.Core.Path.{_≡_, refl, sym, ap, _∙_, subst}
-use mathlib.Core.Bool.{Bool, true, false, not, _||_}
+use mathlib.Core.Bool.{Bool, false}
 use mathlib.Core.List.{List, [], _∷_, _++_, append-assoc, append-nil}
-use Prim.Native.Nat.{ℕ, zero, suc, _+_, _-_, _*_, _≤_, _<_, min}
-use native.Mathlib.Nat.{add-zero, zero-add, add-assoc}
+use Prim.Native.Nat.{ℕ, _+_, _≤_}
 use native.Mathlib.Omega.{arith}
-use lib.Dec.{eqb, ltb, leb}
-use lib.ListN.{length, take, drop, length-append}
-use lib.Seq.{take-length}
-use Rattle.rules.specs.Ceilings.{blobCeiling}
+use lib.ListN.{length, take}
 use Rattle.rules.specs.Octets.{Bytes, be32, be64, words32, words64, closed, put}
-use Rattle.rules.specs.Outcome.{Outcome, gives, refuses, passes, _then_}
-use Rattle.rules.specs.Reservations.{Entry, anyInvalid, overlapping, block}
-use Rattle.rules.specs.Writer.{State, begun, closedNode, withProperty, withPhandle, closedState, beginBytes, endBytes, propertyBytes, headerBytes, nameOffset, nameGrowth, stringsOf, growth, propertyAt, startBytes, startJudged, start, startData, setBootCpu, beginJudged, beginNode, beginNodeData, endJudged, endNode, endNodeData, propertyJudged, property, propertyData, propertyStrings, badString, badList, phandleName, phandleJudged, phandle, phandleData, phandleStrings, phandleTable, finishJudged, finish, finishData}
-use Rattle.rules.specs.Written.{Blocks, writeEvent, writeEvents, blobWith, blobOf, Call, bootCpu, begin, end, bytes, null, string, stringList, number32, number64, array32, array64, phandleCall, Desk, propertyCall, call, run, finished, started, written, hasSaid, said, bootSaid}
-use Rattle.rules.specs.Events.{Property, Event, opens, has, closes}
+use Rattle.rules.specs.Outcome.{Outcome, gives, refuses}
+use Rattle.rules.specs.Reservations.{Entry}
+use Rattle.rules.specs.Writer.{begun, closedNode, withProperty, withPhandle, beginBytes, endBytes, growth, propertyAt, startBytes, setBootCpu, beginJudged, beginNode, beginNodeData, endJudged, endNode, endNodeData, propertyJudged, property, propertyData, propertyStrings, badString, badList, phandleName, phandleJudged, phandle, phandleData, phandleStrings, phandleTable}
+use Rattle.rules.specs.Written.{Blocks, writeEvent, writeEvents, Call, bootCpu, begin, end, bytes, null, string, stringList, number32, number64, array32, array64, phandleCall, Desk, propertyCall, call, run, finished, written, hasSaid, said, bootSaid}
 use Rattle.rules.specs.Laws.Octets.{length-put, take-put, put-nil}
 use Rattle.rules.specs.Laws.Verdicts.{then-passes, gives-refuses}
 use Rattle.rules.specs.Laws.Trips.Tests.{none-fails, roomy, beginTests, begin-tests, endTests, end-tests, holdTests, hold-tests, phandleTests, phandle-tests}
@@ -53,9 +48,12 @@ laid-held rs cpu w d e x y h l =
       dataFits = rw (l .dataLength, l .dataLaid, length-put (d .«data») (d .state .dataLength) x (l .dataRoom)) (l .dataRoom);
       dataHeld =
           rw (l .dataLength, l .dataLaid)
-          (taken (d .«data») (d .state .dataLength) (startBytes rs ++ w .structure) x (l .dataRoom) (h .dataHeld) ∙ append-assoc (startBytes rs) (w .structure) x);
+          (taken (d .«data») (d .state .dataLength) (startBytes rs ++ w .structure) x (l .dataRoom) (h .dataHeld)
+          ∙ append-assoc (startBytes rs) (w .structure) x);
       stringsFit = rw (l .stringsLength, l .stringsLaid, length-put (d .strings) (d .state .stringsLength) y (l .stringsRoom)) (l .stringsRoom);
-      stringsHeld = rw (l .stringsLength, l .stringsLaid) (taken (d .strings) (d .state .stringsLength) (w .strings) y (l .stringsRoom) (h .stringsHeld));
+      stringsHeld =
+          rw (l .stringsLength, l .stringsLaid)
+          (taken (d .strings) (d .state .stringsLength) (w .strings) y (l .stringsRoom) (h .stringsHeld));
       boot = l .boot ∙ h .boot;
     }
 
@@ -63,9 +61,38 @@ laid-held rs cpu w d e x y h l =
 pub laid-data : (rs : List Entry) (cpu : ℕ) (w : Blocks) (d e : Desk) (x : Bytes) → Held rs cpu w d → Laid d x [] e
     → Held rs cpu (record { structure = w .structure ++ x; strings = w .strings }) e
 laid-data rs cpu w d e x h l =
-    subst (λ (s : Bytes). Held rs cpu (record { structure = w .structure ++ x; strings = s }) e) (append-nil (w .strings)) (laid-held rs cpu w d e x [] h l)
+    subst (λ (s : Bytes). Held rs cpu (record { structure = w .structure ++ x; strings = s }) e) (append-nil (w .strings))
+    (laid-held rs cpu w d e x [] h l)
 
 -- ---- one call
+
+-- the desk after a node is opened, a property, and a node is closed
+abbrev pub begunDesk : Desk → Bytes → Desk
+begunDesk d name =
+    record {
+      state = begun (d .state) name;
+      «data» = put (d .«data») (d .state .dataLength) (beginBytes name);
+      strings = d .strings;
+      phandles = d .phandles;
+    }
+
+abbrev pub heldDesk : Desk → Bytes → Bytes → Desk
+heldDesk d name value =
+    record {
+      state = withProperty (d .state) (d .strings) name value;
+      «data» = put (d .«data») (d .state .dataLength) (propertyAt (d .state) (d .strings) name value);
+      strings = put (d .strings) (d .state .stringsLength) (growth (d .state) (d .strings) name);
+      phandles = d .phandles;
+    }
+
+abbrev pub closedDesk : Desk → Desk
+closedDesk d =
+    record {
+      state = closedNode (d .state);
+      «data» = put (d .«data») (d .state .dataLength) endBytes;
+      strings = d .strings;
+      phandles = d .phandles;
+    }
 
 pub given : {A : Type 0} (a b : A) → _≡_ {A = Outcome A} (gives a) (gives b) → b ≡ a
 given a b e = cc
@@ -80,8 +107,7 @@ module _ (d e : Desk) where
       let t = then-passes (beginJudged (d .state) n name) _ e h in
       let p = none-fails (beginTests (d .state) n name) (sym (begin-tests (d .state) n name) ∙ t .0) in
       let r = roomy n (d .state .dataLength + length (beginBytes name)) (p .1 .1 .1 .1 .0) in
-      let q : e ≡ record { state = begun (d .state) name; «data» = put (d .«data») (d .state .dataLength) (beginBytes name); strings = d .strings; phandles = d .phandles } =
-      rw (t .0) at (given _ e (t .1)) in
+      let q : e ≡ begunDesk d name = rw (t .0) at (given _ e (t .1)) in
       rw q
       (record {
         dataRoom = r .0;
@@ -100,8 +126,7 @@ module _ (d e : Desk) where
       let t = then-passes (endJudged (d .state) n depth) _ e h in
       let p = none-fails (endTests (d .state) n depth) (sym (end-tests (d .state) n depth) ∙ t .0) in
       let r = roomy n (d .state .dataLength + length endBytes) (p .1 .1 .0) in
-      let q : e ≡ record { state = closedNode (d .state); «data» = put (d .«data») (d .state .dataLength) endBytes; strings = d .strings; phandles = d .phandles } =
-      rw (t .0) at (given _ e (t .1)) in
+      let q : e ≡ closedDesk d = rw (t .0) at (given _ e (t .1)) in
       rw q
       (record {
         dataRoom = r .0;
@@ -122,24 +147,29 @@ module _ (d e : Desk) where
       let p = none-fails (holdTests (d .state) n (d .strings) own name value) (sym (hold-tests (d .state) n (d .strings) own name value) ∙ t .0) in
       let r = roomy n (d .state .dataLength + length (propertyAt (d .state) (d .strings) name value)) (p .1 .1 .1 .1 .1 .1 .0) in
       let s = roomy (length (d .strings)) (d .state .stringsLength + length (growth (d .state) (d .strings) name)) (p .1 .1 .1 .1 .1 .1 .1 .0) in
-      let q : e
-      ≡ record {
-        state = withProperty (d .state) (d .strings) name value;
-        «data» = put (d .«data») (d .state .dataLength) (propertyAt (d .state) (d .strings) name value);
-        strings = put (d .strings) (d .state .stringsLength) (growth (d .state) (d .strings) name);
-        phandles = d .phandles;
-      } = rw (t .0) at (given _ e (t .1)) in
+      let q : e ≡ heldDesk d name value = rw (t .0) at (given _ e (t .1)) in
       rw q
-      (record { dataRoom = r .0; stringsRoom = s .0; dataLaid = refl; stringsLaid = refl; dataLength = refl; stringsLength = refl; structure = refl; boot = refl })
+      (record {
+        dataRoom = r .0;
+        stringsRoom = s .0;
+        dataLaid = refl;
+        stringsLaid = refl;
+        dataLength = refl;
+        stringsLength = refl;
+        structure = refl;
+        boot = refl;
+      })
 
   phandle-laid : (value : ℕ) → call d (phandleCall value) ≡ gives e
       → Laid d (propertyAt (d .state) (d .strings) phandleName (be32 value)) (growth (d .state) (d .strings) phandleName) e
   unfolding call phandle phandleData phandleStrings phandleTable
   phandle-laid value h =
       let t = then-passes (phandleJudged (d .state) n (d .strings) (d .phandles) value) _ e h in
-      let p = none-fails (phandleTests (d .state) n (d .strings) (d .phandles) value) (sym (phandle-tests (d .state) n (d .strings) (d .phandles) value) ∙ t .0) in
+      let p = none-fails (phandleTests (d .state) n (d .strings) (d .phandles) value)
+      (sym (phandle-tests (d .state) n (d .strings) (d .phandles) value) ∙ t .0) in
       let r = roomy n (d .state .dataLength + length (propertyAt (d .state) (d .strings) phandleName (be32 value))) (p .1 .1 .1 .1 .1 .1 .1 .0) in
-      let s = roomy (length (d .strings)) (d .state .stringsLength + length (growth (d .state) (d .strings) phandleName)) (p .1 .1 .1 .1 .1 .1 .1 .1 .0) in
+      let s = roomy (length (d .strings)) (d .state .stringsLength + length (growth (d .state) (d .strings) phandleName))
+      (p .1 .1 .1 .1 .1 .1 .1 .1 .0) in
       let q : e
       ≡ record {
         state = withPhandle (d .state) (d .strings) value;
@@ -148,7 +178,16 @@ module _ (d e : Desk) where
         phandles = put (d .phandles) (d .state .phandleCount) (value ∷ []);
       } = rw (t .0) at (given _ e (t .1)) in
       rw q
-      (record { dataRoom = r .0; stringsRoom = s .0; dataLaid = refl; stringsLaid = refl; dataLength = refl; stringsLength = refl; structure = refl; boot = refl })
+      (record {
+        dataRoom = r .0;
+        stringsRoom = s .0;
+        dataLaid = refl;
+        stringsLaid = refl;
+        dataLength = refl;
+        stringsLength = refl;
+        structure = refl;
+        boot = refl;
+      })
 
 -- A PROPERTY, as an event
 hold-held : (rs : List Entry) (cpu : ℕ) (w : Blocks) (d e : Desk) (name value : Bytes) → Held rs cpu w d
@@ -157,13 +196,26 @@ hold-held : (rs : List Entry) (cpu : ℕ) (w : Blocks) (d e : Desk) (name value 
 unfolding writeEvent
 hold-held rs cpu w d e name value h l = laid-held rs cpu w d e _ _ h (rw (h .stringsHeld) at l)
 
+-- another boot CPU
+pub boot-held : (rs : List Entry) (cpu m : ℕ) (w : Blocks) (d : Desk) → Held rs cpu w d
+    → Held rs m w (record { state = setBootCpu (d .state) m; «data» = d .«data»; strings = d .strings; phandles = d .phandles })
+unfolding setBootCpu
+boot-held rs cpu m w d h =
+    record {
+      structure = h .structure;
+      dataFits = h .dataFits;
+      dataHeld = h .dataHeld;
+      stringsFit = h .stringsFit;
+      stringsHeld = h .stringsHeld;
+      boot = refl;
+    }
+
 -- ONE CALL: its events are written behind the others
 pub call-held : (rs : List Entry) (cpu : ℕ) (w : Blocks) (d e : Desk) (c : Call) → Held rs cpu w d → call d c ≡ gives e
     → Held rs (bootSaid cpu (c ∷ [])) (writeEvents w (said (c ∷ []))) e
 unfolding said bootSaid writeEvents writeEvent call setBootCpu
 call-held rs cpu w d e (bootCpu m) h g =
-    rw (given _ e g)
-    (record { structure = h .structure; dataFits = h .dataFits; dataHeld = h .dataHeld; stringsFit = h .stringsFit; stringsHeld = h .stringsHeld; boot = refl })
+    rw (given _ e g) (boot-held rs cpu m w d h)
 call-held rs cpu w d e (begin name) h g = laid-data rs cpu w d e (beginBytes name) h (begin-laid d e name (h .stringsFit) g)
 call-held rs cpu w d e (end depth) h g = laid-data rs cpu w d e endBytes h (end-laid d e depth (h .stringsFit) g)
 call-held rs cpu w d e (bytes name value) h g = hold-held rs cpu w d e name value h (hold-laid d e false name value g)

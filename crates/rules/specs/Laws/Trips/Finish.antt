@@ -1,8 +1,8 @@
 -- From start to finish: what `written` leaves, where it accepts, is the blob of the events said.
 use mathlib.Core.Path.{_≡_, refl, sym, ap, _∙_}
 use mathlib.Core.Bool.{false}
-use mathlib.Core.List.{List, [], _∷_, _++_, append-assoc, append-nil}
-use Prim.Native.Nat.{ℕ, _+_, _-_, _*_, _≤_}
+use mathlib.Core.List.{List, [], _++_, append-assoc, append-nil}
+use Prim.Native.Nat.{ℕ, _+_, _*_, _≤_}
 use native.Mathlib.Nat.{zero-add}
 use native.Mathlib.Omega.{arith}
 use lib.ListN.{length, take, drop, length-append, length-drop, length-take, take-append-drop}
@@ -11,7 +11,7 @@ use Rattle.rules.specs.Ceilings.{blobCeiling}
 use Rattle.rules.specs.Octets.{Bytes, be32, zeros, put}
 use Rattle.rules.specs.Outcome.{Outcome, gives, refuses, passes, _then_}
 use Rattle.rules.specs.Reservations.{Entry, anyInvalid, block}
-use Rattle.rules.specs.Writer.{State, total, headerBytes, headerOf, startBytes, startJudged, start, startData, finishJudged, finish, finishData}
+use Rattle.rules.specs.Writer.{total, headerBytes, headerOf, startBytes, startJudged, start, startData, finishJudged, finish, finishData}
 use Rattle.rules.specs.Written.{Blocks, writeEvents, blobWith, blobOf, Call, Desk, run, finished, started, written, said, bootSaid}
 use Rattle.rules.specs.Laws.Octets.{length-be32, length-zeros, length-put, take-put}
 use Rattle.rules.specs.Laws.Verdicts.{then-passes, gives-refuses}
@@ -59,7 +59,13 @@ length-with rs cpu w =
     let s : ℕ = length (startBytes rs) in
     let n : ℕ = length (w .structure) + 4 in
     let h : Bytes = headerBytes (s + n + length (w .strings)) s (s + n) cpu (length (w .strings)) n in
-    rw (length-append h (block rs ++ (w .structure ++ (be32 9 ++ w .strings))), length-append (block rs), length-append (w .structure), length-append (be32 9), length-be32 9)
+    rw (
+      length-append h (block rs ++ (w .structure ++ (be32 9 ++ w .strings))),
+      length-append (block rs),
+      length-append (w .structure),
+      length-append (be32 9),
+      length-be32 9,
+    )
     (omega (arith, length-header (s + n + length (w .strings)) s (s + n) cpu (length (w .strings)) n, length-start rs, length-block rs))
 
 put-front : (d xs : Bytes) → put d 0 xs ≡ xs ++ drop (length xs) d
@@ -77,8 +83,10 @@ header-laid d n x h f g =
     let m : drop (length h) (put d n x) ≡ drop (length h) y ++ drop (n + length x) (put d n x) =
     ap (drop (length h)) e ∙ drop-append-le (length h) y (drop (n + length x) (put d n x)) (omega arith) in
     let k : length (h ++ drop (length h) y) ≡ n + length x = length-append h (drop (length h) y) ∙ omega (arith, length-drop (length h) y) in
-    let z : drop (length h) y ≡ drop (length h) (take n d) ++ x = drop-append-le (length h) (take n d) x (omega (arith, length-take-le n d (omega arith))) in
-    ap (take (n + length x)) (put-front (put d n x) h ∙ ap (λ (b : Bytes). h ++ b) m ∙ sym (append-assoc h (drop (length h) y) (drop (n + length x) (put d n x))))
+    let z : drop (length h) y ≡ drop (length h) (take n d) ++ x =
+    drop-append-le (length h) (take n d) x (omega (arith, length-take-le n d (omega arith))) in
+    ap (take (n + length x))
+    (put-front (put d n x) h ∙ ap (λ (b : Bytes). h ++ b) m ∙ sym (append-assoc h (drop (length h) y) (drop (n + length x) (put d n x))))
     ∙ take-at (h ++ drop (length h) y) (drop (n + length x) (put d n x)) (n + length x) k
     ∙ ap (λ (b : Bytes). h ++ b) z
 
@@ -90,6 +98,10 @@ module _ (rs : List Entry) (cpu : ℕ) (w : Blocks) (d : Desk) (h : Held rs cpu 
   abbrev s : ℕ
   s = length (startBytes rs)
 
+  -- how long the structure is with its END
+  abbrev n : ℕ
+  n = length (w .structure) + 4
+
   pub data-length : d .state .dataLength ≡ s + length (w .structure)
   data-length =
       sym (length-take-le (d .state .dataLength) (d .«data») (h .dataFits)) ∙ ap length (h .dataHeld) ∙ length-append (startBytes rs) (w .structure)
@@ -98,9 +110,9 @@ module _ (rs : List Entry) (cpu : ℕ) (w : Blocks) (d : Desk) (h : Held rs cpu 
   strings-length = sym (length-take-le (d .state .stringsLength) (d .strings) (h .stringsFit)) ∙ ap length (h .stringsHeld)
 
   header-held : headerOf (d .state)
-      ≡ headerBytes (s + (length (w .structure) + 4) + length (w .strings)) s (s + (length (w .structure) + 4)) cpu (length (w .strings)) (length (w .structure) + 4)
+      ≡ headerBytes (s + n + length (w .strings)) s (s + n) cpu (length (w .strings)) n
   header-held =
-      let n = data-length in
+      let l = data-length in
       let m = strings-length in
       let k = h .structure in
       header-same _ _ _ _ _ _ _ _ _ _ _ _ (omega arith) k (omega arith) (h .boot) m (omega arith)
@@ -110,18 +122,21 @@ module _ (rs : List Entry) (cpu : ℕ) (w : Blocks) (d : Desk) (h : Held rs cpu 
   start-past = rw append-assoc (drop-at (zeros 40) (block rs ++ w .structure) 40 (length-zeros 40))
 
   -- WHAT `finish` LEAVES IS THE BLOB OF THE TWO BLOCKS
-  finish-bytes : total (d .state) ≤ length (d .«data») → take (total (d .state)) (put (put (d .«data») (d .state .dataLength) (be32 9 ++ take (d .state .stringsLength) (d .strings))) 0 (headerOf (d .state))) ≡ blobWith rs cpu w
+  finish-bytes : total (d .state) ≤ length (d .«data»)
+      → take (total (d .state))
+      (put (put (d .«data») (d .state .dataLength) (be32 9 ++ take (d .state .stringsLength) (d .strings))) 0 (headerOf (d .state)))
+      ≡ blobWith rs cpu w
   unfolding blobWith
   finish-bytes r =
-      let n : ℕ = d .state .dataLength in
+      let k : ℕ = d .state .dataLength in
       let x : Bytes = be32 9 ++ w .strings in
-      let lx : length x ≡ 4 + length (w .strings) = length-append (be32 9) (w .strings) ∙ ap (λ (k : ℕ). k + length (w .strings)) (length-be32 9) in
-      let t : total (d .state) ≡ n + length x = omega (arith, strings-length) in
-      let H : Bytes = headerBytes (s + (length (w .structure) + 4) + length (w .strings)) s (s + (length (w .structure) + 4)) cpu (length (w .strings)) (length (w .structure) + 4) in
+      let lx : length x ≡ 4 + length (w .strings) = length-append (be32 9) (w .strings) ∙ ap (λ (j : ℕ). j + length (w .strings)) (length-be32 9) in
+      let t : total (d .state) ≡ k + length x = omega (arith, strings-length) in
+      let H : Bytes = headerBytes (s + n + length (w .strings)) s (s + n) cpu (length (w .strings)) n in
       let l : length H ≡ 40 = length-header _ _ _ _ _ _ in
-      let z : drop (length H) (take n (d .«data»)) ≡ block rs ++ w .structure = rw (l, h .dataHeld) start-past in
+      let z : drop (length H) (take k (d .«data»)) ≡ block rs ++ w .structure = rw (l, h .dataHeld) start-past in
       rw (h .stringsHeld, header-held, t)
-      (header-laid (d .«data») n x H (omega arith) (omega (arith, data-length, length-start rs))
+      (header-laid (d .«data») k x H (omega arith) (omega (arith, data-length, length-start rs))
       ∙ ap (λ (b : Bytes). H ++ (b ++ x)) z
       ∙ ap (λ (b : Bytes). H ++ b) (append-assoc (block rs) (w .structure) x))
 
@@ -129,11 +144,11 @@ module _ (rs : List Entry) (cpu : ℕ) (w : Blocks) (d : Desk) (h : Held rs cpu 
   pub finish-held : (blob : Bytes) → finished d ≡ gives blob → (blob ≡ blobWith rs cpu w) × (length blob ≤ blobCeiling)
   unfolding finished finish finishData
   finish-held blob g =
-      let n : ℕ = length (d .«data») in
+      let k : ℕ = length (d .«data») in
       let m : ℕ = length (d .strings) in
-      let t = then-passes (finishJudged (d .state) n m) _ blob g in
-      let p = none-fails (finishTests (d .state) n m) (sym (finish-tests (d .state) n m) ∙ t .0) in
-      let r = roomy n (total (d .state)) (p .1 .1 .0) in
+      let t = then-passes (finishJudged (d .state) k m) _ blob g in
+      let p = none-fails (finishTests (d .state) k m) (sym (finish-tests (d .state) k m) ∙ t .0) in
+      let r = roomy k (total (d .state)) (p .1 .1 .0) in
       let q = rw (t .0) at (given _ blob (t .1)) in
       (q ∙ finish-bytes (r .0), omega (arith, r .1, ap length q ∙ length-take (total (d .state)) _))
 

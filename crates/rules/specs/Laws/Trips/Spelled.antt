@@ -1,31 +1,29 @@
 -- The calls that events spell: where the events pass the shape and there is room, every call is accepted.
-use mathlib.Core.Path.{_≡_, refl, sym, ap, _∙_, subst}
-use mathlib.Core.Bool.{Bool, true, false, not, _||_}
-use mathlib.Core.List.{List, [], _∷_, _++_, append-assoc, append-nil}
-use Prim.Native.Nat.{ℕ, zero, suc, _+_, _-_, _*_, _%_, _≤_, _<_, min}
+use mathlib.Core.Path.{_≡_, refl, sym, ap, _∙_}
+use mathlib.Core.Bool.{Bool, true, false, not}
+use mathlib.Core.List.{List, [], _∷_, _++_}
+use Prim.Native.Nat.{ℕ, suc, _+_, _-_, _%_, _≤_, _<_}
 use native.Mathlib.Omega.{arith}
-use native.Mathlib.Numerals.{add-one}
-use lib.Dec.{eqb, ltb, leb}
-use lib.ListN.{length, take, length-append}
+use lib.Dec.{eqb}
+use lib.ListN.{length, length-append}
 use borrow.Author.Tests.{eq-eqb, ne-eqb, le-ltb, lt-leb}
 use Rattle.rules.specs.Ceilings.{blobCeiling, openCeiling}
-use Rattle.rules.specs.Octets.{Bytes, hasNul, put}
-use Rattle.rules.specs.Outcome.{Outcome, gives, refuses, passes}
+use Rattle.rules.specs.Octets.{Bytes}
+use Rattle.rules.specs.Outcome.{gives, passes}
 use Rattle.rules.specs.Names.{nodeNameValid, nodeNameReads, propertyNameValid, propertyNameReads}
-use Rattle.rules.specs.Reservations.{Entry, block}
-use Rattle.rules.specs.Writer.{State, room, impossible, begun, closedNode, withProperty, beginBytes, endBytes, propertyBytes, nameOffset, nameGrowth, growth, propertyAt, startBytes, beginJudged, beginNode, beginNodeData, endJudged, endNode, endNodeData, propertyJudged, property, propertyData, propertyStrings, finishJudged, finish, finishData, total}
-use Rattle.rules.specs.Written.{Blocks, writeEvent, writeEvents, blobWith, Call, begin, end, bytes, Desk, propertyCall, call, run, finished, said, bootSaid, hasSaid, spelled}
+use Rattle.rules.specs.Reservations.{Entry}
+use Rattle.rules.specs.Writer.{State, room, impossible, beginBytes, endBytes, propertyBytes, nameOffset, nameGrowth, growth, propertyAt, startBytes, beginJudged, beginNode, beginNodeData, endJudged, endNode, endNodeData, propertyJudged, property, propertyData, propertyStrings}
+use Rattle.rules.specs.Written.{Blocks, writeEvent, writeEvents, Call, begin, end, bytes, Desk, propertyCall, call, run, finished, said, bootSaid, hasSaid, spelled}
 use Rattle.rules.specs.Events.{Property, Event, opens, has, closes}
 use Rattle.rules.specs.Laws.Tests.{and-true}
 use Rattle.rules.specs.Laws.Octets.{length-put}
 use Rattle.rules.specs.Laws.Names.{node-empty, node-name-plain, property-name-plain, plain-closed}
 use Rattle.rules.specs.Laws.Nested.{Nested, finished as all-said, root, child, holds, shuts}
-use Rattle.rules.specs.Laws.Header.{length-block}
 use Rattle.rules.specs.Laws.Encoded.{length-begin, length-end, length-property}
-use Rattle.rules.specs.Laws.ReadBack.{structureOf, stringsOf, writes, strings-grow}
-use Rattle.rules.specs.Laws.Trips.Tests.{first-passes, beginTests, begin-tests, endTests, end-tests, holdTests, hold-tests, finishTests, finish-tests}
-use Rattle.rules.specs.Laws.Trips.Calls.{Held, call-held, run-on, goes-on}
-use Rattle.rules.specs.Laws.Trips.Finish.{length-start, data-length, strings-length, finish-held}
+use Rattle.rules.specs.Laws.ReadBack.{structureOf, stringsOf, strings-grow}
+use Rattle.rules.specs.Laws.Trips.Tests.{first-passes, beginTests, begin-tests, endTests, end-tests, holdTests, hold-tests}
+use Rattle.rules.specs.Laws.Trips.Calls.{Held, begunDesk, heldDesk, closedDesk, call-held, run-on, goes-on}
+use Rattle.rules.specs.Laws.Trips.Finish.{length-start, data-length, strings-length}
 
 -- ---- what a desk is ready for
 
@@ -40,7 +38,8 @@ pub record Ready (rs : List Entry) (cpu : ℕ) (w : Blocks) (depth : ℕ) (ended
   pub lent : length (d .«data») ≡ n
   pub stringsLent : length (d .strings) ≡ m
 
-possible-state : (w : State) (n m : ℕ) → w .finished ≡ false → 56 ≤ w .dataLength → w .dataLength % 4 ≡ 0 → 56 ≤ w .structure → w .structure ≤ w .dataLength
+possible-state : (w : State) (n m : ℕ) → w .finished ≡ false → 56 ≤ w .dataLength → w .dataLength % 4 ≡ 0 → 56 ≤ w .structure
+    → w .structure ≤ w .dataLength
     → w .depth ≤ openCeiling → w .dataLength ≤ room n → w .stringsLength ≤ room m → impossible w n m ≡ false
 unfolding impossible
 possible-state w n m a b c d e f g h =
@@ -68,7 +67,8 @@ module _ (rs : List Entry) (cpu : ℕ) (n m : ℕ) where
         let b = strings-length rs cpu w d (r .held) in
         let c = r .held .structure in
         let o : d .state .depth ≤ openCeiling = rw (r .deep) (r .shallow) in
-        possible-state (d .state) (length (d .«data»)) k (r .going) (omega arith) (omega (arith, r .whole)) (omega arith) (omega arith) o (omega arith) (omega arith)
+        possible-state (d .state) (length (d .«data»)) k (r .going) (omega arith) (omega (arith, r .whole)) (omega arith) (omega arith) o
+        (omega arith) (omega arith)
 
     -- the next place of the data
     pub next-place : d .state .dataLength ≡ s + length (w .structure)
@@ -78,7 +78,8 @@ module _ (rs : List Entry) (cpu : ℕ) (n m : ℕ) where
     next-string = strings-length rs cpu w d (r .held)
 
     -- opening a node
-    begin-accepted : (name : Bytes) → nodeNameValid name ≡ true → depth < openCeiling → s + (length (w .structure) + length (beginBytes name)) ≤ room n
+    begin-accepted : (name : Bytes) → nodeNameValid name ≡ true → depth < openCeiling
+        → s + (length (w .structure) + length (beginBytes name)) ≤ room n
         → length (w .strings) ≤ blobCeiling
         → (e : Desk) × (call d (begin name) ≡ gives e) × Ready rs cpu (writeEvent w (opens 0 name)) (suc depth) false n m e
     unfolding call beginNode beginNodeData writeEvent writeEvents said bootSaid
@@ -96,7 +97,7 @@ module _ (rs : List Entry) (cpu : ℕ) (n m : ℕ) where
             (plain-closed name (node-name-plain name v), (rw v, (le-ltb (room k) (d .state .dataLength + length (beginBytes name)) room-left, tt))),
           ),
         ) in
-        let e : Desk = record { state = begun (d .state) name; «data» = put (d .«data») (d .state .dataLength) (beginBytes name); strings = d .strings; phandles = d .phandles } in
+        let e : Desk = begunDesk d name in
         let c : call d (begin name) ≡ gives e = rw t in (
           e,
           c,
@@ -154,13 +155,7 @@ module _ (rs : List Entry) (cpu : ℕ) (n m : ℕ) where
             ),
           ),
         ) in
-        let e : Desk =
-        record {
-          state = withProperty (d .state) (d .strings) name value;
-          «data» = put (d .«data») (d .state .dataLength) (propertyAt (d .state) (d .strings) name value);
-          strings = put (d .strings) (d .state .stringsLength) (growth (d .state) (d .strings) name);
-          phandles = d .phandles;
-        } in
+        let e : Desk = heldDesk d name value in
         let c : call d (bytes name value) ≡ gives e = rw t in (
           e,
           c,
@@ -193,7 +188,7 @@ module _ (rs : List Entry) (cpu : ℕ) (n m : ℕ) where
             (le-ltb (room k) (d .state .dataLength + length endBytes) (omega arith), tt),
           ),
         ) in
-        let e : Desk = record { state = closedNode (d .state); «data» = put (d .«data») (d .state .dataLength) endBytes; strings = d .strings; phandles = d .phandles } in
+        let e : Desk = closedDesk d in
         let c : call d (end depth) ≡ gives e = rw t in (
           e,
           c,
@@ -247,7 +242,9 @@ module _ (rs : List Entry) (cpu : ℕ) (n m : ℕ) where
 
   module _ (w : Blocks) (es : List Event) where
     fitting-begin : (place : ℕ) (name : Bytes) → Fitting w (opens place name ∷ es)
-        → (s + (length (w .structure) + length (beginBytes name)) ≤ room n) × (length (w .strings) ≤ blobCeiling) × Fitting (writeEvent w (opens place name)) es
+        → (s + (length (w .structure) + length (beginBytes name)) ≤ room n)
+        × (length (w .strings) ≤ blobCeiling)
+        × Fitting (writeEvent w (opens place name)) es
     unfolding writeEvent structureOf stringsOf
     fitting-begin place name f =
         let a = f .dataRoom in
@@ -319,10 +316,13 @@ module _ (rs : List Entry) (cpu : ℕ) (n m : ℕ) where
       → Runs w es (length stack) ended
   spelled-runs (all-said {ended = ended} z) w f = runs-none w ended
   spelled-runs (root {ended = ended} {place = place} {name = name} {es = es} z e t) w f =
-      runs-begin w es place 0 ended name (node-empty name e) some-open f (spelled-runs t (writeEvent w (opens place name)) (fitting-begin w es place name f .2))
+      runs-begin w es place 0 ended name (node-empty name e) some-open f
+      (spelled-runs t (writeEvent w (opens place name)) (fitting-begin w es place name f .2))
   spelled-runs (child {ended = ended} {i = i} {place = place} {is = is} {name = name} {es = es} e o q t) w f =
-      runs-begin w es place (length (i ∷ is)) ended name (reads-valid name e) o f (spelled-runs t (writeEvent w (opens place name)) (fitting-begin w es place name f .2))
+      runs-begin w es place (length (i ∷ is)) ended name (reads-valid name e) o f
+      (spelled-runs t (writeEvent w (opens place name)) (fitting-begin w es place name f .2))
   spelled-runs (holds {i = i} {is = is} {p = p} {es = es} e t) w f =
-      runs-hold w es (length (i ∷ is)) p (property-valid (p .name) e) (omega arith) f (spelled-runs t (writeEvent w (has p)) (fitting-hold w es p f .2))
+      runs-hold w es (length (i ∷ is)) p (property-valid (p .name) e) (omega arith) f
+      (spelled-runs t (writeEvent w (has p)) (fitting-hold w es p f .2))
   spelled-runs (shuts {ended = ended} {place = place} {is = is} {es = es} t) w f =
       runs-end w es place (length is) ended f (spelled-runs t (writeEvent w (closes place)) (fitting-end w es place f .2))

@@ -1,12 +1,12 @@
 -- Tests in order pass exactly where none fails; the tests of each call of the writer, and what those of room say.
 use mathlib.Core.Path.{_≡_, refl}
-use mathlib.Core.Bool.{Bool, true, false, not, _||_}
+use mathlib.Core.Bool.{Bool, false, not, _||_}
 use mathlib.Core.List.{List, [], _∷_, _++_}
-use Prim.Native.Nat.{ℕ, _+_, _≤_, min}
+use Prim.Native.Nat.{ℕ, _+_, _≤_}
 use native.Mathlib.Omega.{arith}
 use lib.Dec.{eqb, ltb, leb}
 use lib.ListN.{length, take}
-use borrow.Author.Tests.{ltb-false, le-ltb}
+use borrow.Author.Tests.{ltb-false}
 use Rattle.rules.specs.Ceilings.{blobCeiling, openCeiling, reservationCeiling}
 use Rattle.rules.specs.Octets.{Bytes, be32, hasNul}
 use Rattle.rules.specs.Outcome.{passes, Test, first}

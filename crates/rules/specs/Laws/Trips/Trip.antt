@@ -1,7 +1,4 @@
 -- "Reading gives back what was written if the tree has one empty-named root and passes 6 to 12."
-use mathlib.Core.Path.{_≡_}
-use Prim.Native.Nat.{_≤_}
-use lib.ListN.{length}
 use Rattle.rules.specs.Written.{said, bootSaid}
 use Rattle.rules.specs.Demands.{WriteThenRead}
 use Rattle.rules.specs.Laws.BlobBack.{reads-back}
