@@ -1,3 +1,4 @@
 pub mod Passed
 pub mod Properties
 pub mod Phandles
+pub mod Starts

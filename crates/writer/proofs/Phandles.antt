@@ -13,7 +13,11 @@ use Rattle.rules.specs.Outcome.{Outcome, gives, refuses, Verdict, passes, Test,
 use Rattle.rules.specs.Writer.{State, impossible, wrongState, nameOffset, test, stringsOf, growth, propertyBytes, propertyAt, propertyTests, phandleName, phandleJudged, withPhandle, phandle, phandleData, phandleStrings, phandleTable}
 use Rattle.rules.specs.Laws.Octets.{length-be32}
 use Rattle.rules.specs.Laws.Writer.{length-property}
-use Rattle.writer.specs.Judged.{sized, placed, phandlePlaced, grown, longer}
+use Rattle.writer.specs.Meaning.{numberOf}
+use Rattle.writer.specs.Judged.{placeOf, sized, placed, phandlePlaced, grown, longer}
+use Rattle.writer.specs.declared.Error.{Error}
+use Rattle.writer.specs.declared.judge.Place.{Place}
+use Rattle.writer.specs.declared.judge.Place.the-variants.{At, Not}
 use Rattle.writer.proofs.Passed.{all-passed, answer-refused, answer-done, kept, changed}
 use Rattle.writer.proofs.Properties.{gives-judged, refuses-judged, was-placed, Placed}
 
@@ -67,24 +71,27 @@ module _
     (value : ℕ)
     (a : impossible w lent (length strings) ≡ false)
     (b : ltb (length phandles) (w .phandleCount) ≡ false)
-    (c : oneOf value (take (w .phandleCount) phandles) ≡ false) where
+    (c : oneOf value (take (w .phandleCount) phandles) ≡ false)
+    (r : Place)
+    (f : placeOf r ≡ placed w lent strings false phandleName 16) where
   -- the property is refused
-  pub phandle-not : (n : ℕ) → refuses n 0 ≡ placed w lent strings false phandleName 16 → refuses n 0 ≡ phandlePlaced w lent strings phandles value
+  pub phandle-not : (e : Error) → r ≡ Not e → refuses (numberOf e) 0 ≡ phandlePlaced w lent strings phandles value
   unfolding placed phandlePlaced
-  phandle-not n e = rw (phandle-on w lent strings phandles value a b c, ← refuses-judged (sized w lent strings false phandleName 16) n (nameOffset phandleName (stringsOf w strings)) e)
+  phandle-not e t =
+      rw (phandle-on w lent strings phandles value a b c, ← refuses-judged (sized w lent strings false phandleName 16) (numberOf e) (nameOffset phandleName (stringsOf w strings)) (ap placeOf (sym t) ∙ f))
 
   -- it passes, and the table is full
-  pub phandle-full : (offset : ℕ) → gives offset ≡ placed w lent strings false phandleName 16 → length phandles ≡ w .phandleCount → refuses 33 0 ≡ phandlePlaced w lent strings phandles value
+  pub phandle-full : (offset : ℕ) → r ≡ At offset → length phandles ≡ w .phandleCount → refuses 33 0 ≡ phandlePlaced w lent strings phandles value
   unfolding placed phandlePlaced
-  phandle-full offset e h =
-      let v = gives-judged (sized w lent strings false phandleName 16) offset (nameOffset phandleName (stringsOf w strings)) e .0 in
+  phandle-full offset t h =
+      let v = gives-judged (sized w lent strings false phandleName 16) offset (nameOffset phandleName (stringsOf w strings)) (ap placeOf (sym t) ∙ f) .0 in
       rw (phandle-on w lent strings phandles value a b c, ← v, lt-ltb (length phandles) (w .phandleCount + 1) (omega arith))
 
   -- it passes, and the table is not
-  pub phandle-at : (offset : ℕ) → gives offset ≡ placed w lent strings false phandleName 16 → w .phandleCount < length phandles → gives offset ≡ phandlePlaced w lent strings phandles value
+  pub phandle-at : (offset : ℕ) → r ≡ At offset → w .phandleCount < length phandles → gives offset ≡ phandlePlaced w lent strings phandles value
   unfolding placed phandlePlaced
-  phandle-at offset e h =
-      let v = gives-judged (sized w lent strings false phandleName 16) offset (nameOffset phandleName (stringsOf w strings)) e in
+  phandle-at offset t h =
+      let v = gives-judged (sized w lent strings false phandleName 16) offset (nameOffset phandleName (stringsOf w strings)) (ap placeOf (sym t) ∙ f) in
       rw (phandle-on w lent strings phandles value a b c, ← v .0, le-ltb (length phandles) (w .phandleCount + 1) (omega arith)) (ap gives (v .1))
 
 pub record Noted (w : State) (lent : ℕ) (strings : Bytes) (phandles : List ℕ) (value offset : ℕ) : Type 0 where
@@ -113,39 +120,46 @@ was-noted w lent strings phandles value offset e =
       place = was-placed w lent strings false phandleName 16 offset p;
     }
 
+-- the same of what the judge answered
+pub at-noted : (w : State) (lent : ℕ) (strings : Bytes) (phandles : List ℕ) (value offset : ℕ) (r : Place) → r ≡ At offset → placeOf r ≡ phandlePlaced w lent strings phandles value
+    → Noted w lent strings phandles value offset
+at-noted w lent strings phandles value offset r t e = was-noted w lent strings phandles value offset (ap placeOf (sym t) ∙ e)
+
 -- ---- what a call answers and leaves
 
-module _ (w : State) (d strings : Bytes) (phandles : List ℕ) (value : ℕ) where
-  pub phandle-refused : (n : ℕ) → refuses n 0 ≡ phandlePlaced w (length d) strings phandles value
-      → (record { verdict = refuses n 0; state = w } ≡ phandle w (length d) strings phandles value)
+module _ (w : State) (d strings : Bytes) (phandles : List ℕ) (value : ℕ) (r : Place) (f : placeOf r ≡ phandlePlaced w (length d) strings phandles value) where
+  pub phandle-refused : (e : Error) → r ≡ Not e
+      → (record { verdict = refuses (numberOf e) 0; state = w } ≡ phandle w (length d) strings phandles value)
       × ((d ≡ phandleData w d strings phandles value)
       × ((strings ≡ phandleStrings w (length d) strings phandles value)
       × (phandles ≡ phandleTable w (length d) strings phandles value)))
   unfolding phandlePlaced phandle phandleData phandleStrings phandleTable
-  phandle-refused n e =
-      let v : refuses n 0 ≡ phandleJudged w (length d) strings phandles value = refuses-judged _ n _ e in
+  phandle-refused e t =
+      let n = numberOf e in
+      let v : refuses n 0 ≡ phandleJudged w (length d) strings phandles value = refuses-judged _ n _ (ap placeOf (sym t) ∙ f) in
       (answer-refused _ n w (withPhandle w strings value) v, (kept _ n d _ v, (kept _ n strings _ v, kept _ n phandles _ v)))
 
-  pub phandle-done : (offset : ℕ) (d₁ s₁ : Bytes) (t₁ : List ℕ) → gives offset ≡ phandlePlaced w (length d) strings phandles value
+  pub phandle-done : (offset : ℕ) → r ≡ At offset → (d₁ s₁ : Bytes) (t₁ : List ℕ) (x : State)
       → d₁ ≡ lay d (w .dataLength) (propertyBytes offset (be32 value))
       → s₁ ≡ lay strings (w .stringsLength) (grown offset (w .stringsLength) phandleName)
       → t₁ ≡ lay phandles (w .phandleCount) (value ∷ [])
-      → (record { verdict = passes; state = withEntry w 16 (length (grown offset (w .stringsLength) phandleName)) } ≡ phandle w (length d) strings phandles value)
+      → x ≡ withEntry w 16 (length (grown offset (w .stringsLength) phandleName))
+      → (record { verdict = passes; state = x } ≡ phandle w (length d) strings phandles value)
       × ((d₁ ≡ phandleData w d strings phandles value)
       × ((s₁ ≡ phandleStrings w (length d) strings phandles value)
       × (t₁ ≡ phandleTable w (length d) strings phandles value)))
   unfolding phandle phandleData phandleStrings phandleTable
-  phandle-done offset d₁ s₁ t₁ e f g h =
-      let q = was-noted w (length d) strings phandles value offset e in
+  phandle-done offset t d₁ s₁ t₁ x g h k l =
+      let q = was-noted w (length d) strings phandles value offset (ap placeOf (sym t) ∙ f) in
       let p = q .place in
       let v = q .judged in
       let n = size w (length d) strings phandles value in (
-        rw (← n, ← p .grows) (answer-done _ w (withPhandle w strings value) v),
+        rw (l, ← n, ← p .grows) (answer-done _ w (withPhandle w strings value) v),
         (
-          changed _ d d₁ (w .dataLength) (propertyAt w strings phandleName (be32 value)) v (omega (arith, p .dataFits)) (rw (p .found) at f),
+          changed _ d d₁ (w .dataLength) (propertyAt w strings phandleName (be32 value)) v (omega (arith, p .dataFits)) (rw (p .found) at g),
           (
-            changed _ strings s₁ (w .stringsLength) (growth w strings phandleName) v (p .stringsFit) (rw (← p .grows) at g),
-            changed _ phandles t₁ (w .phandleCount) (value ∷ []) v (q .entry) h,
+            changed _ strings s₁ (w .stringsLength) (growth w strings phandleName) v (p .stringsFit) (rw (← p .grows) at h),
+            changed _ phandles t₁ (w .phandleCount) (value ∷ []) v (q .entry) k,
           ),
         ),
       )

@@ -10,10 +10,14 @@ use lib.Seq.{length-take-le}
 use Rattle.rules.specs.Octets.{Bytes, if_then_else_, padded, lay, hasNul, closed}
 use Rattle.rules.specs.Names.{propertyNameValid}
 use Rattle.rules.specs.Outcome.{Outcome, gives, refuses, Verdict, passes, _then_}
-use Rattle.rules.specs.Writer.{State, Answer, nameOffset, nameGrowth, noRoom, wrongState, test, stringsOf, growth, propertyBytes, propertyAt, propertyJudged, withProperty, property, propertyData, propertyStrings}
+use Rattle.rules.specs.Writer.{State, nameOffset, nameGrowth, noRoom, wrongState, test, stringsOf, growth, propertyBytes, propertyAt, propertyJudged, withProperty, property, propertyData, propertyStrings}
 use Rattle.rules.specs.Laws.Tests.{by-test}
 use Rattle.rules.specs.Laws.Writer.{length-closed, length-property}
-use Rattle.writer.specs.Judged.{sized, placed, grown, longer}
+use Rattle.writer.specs.Meaning.{numberOf}
+use Rattle.writer.specs.Judged.{placeOf, sized, placed, grown, longer}
+use Rattle.writer.specs.declared.Error.{Error}
+use Rattle.writer.specs.declared.judge.Place.{Place}
+use Rattle.writer.specs.declared.judge.Place.the-variants.{At, Not}
 use Rattle.writer.proofs.Passed.{all-passed, possible, Possible, fits, answer-refused, answer-done, kept, changed}
 
 -- ---- a judgement, and what it gives
@@ -88,33 +92,41 @@ module _ (w : State) (dataLent : ℕ) (strings : Bytes) (own : Bool) (name : Byt
         grows = growth-eq w strings name offset (p .inStrings) was-found;
       }
 
+-- the same of what the judge answered
+pub at-place : (w : State) (dataLent : ℕ) (strings : Bytes) (own : Bool) (name : Bytes) (size offset : ℕ) (r : Place) → r ≡ At offset → placeOf r ≡ placed w dataLent strings own name size
+    → Placed w dataLent strings name size offset
+at-place w dataLent strings own name size offset r t e = was-placed w dataLent strings own name size offset (ap placeOf (sym t) ∙ e)
+
 -- ---- what a call answers and leaves
 
-abbrev pub with-done : State → Answer
-with-done w = record { verdict = passes; state = w }
-
-module _ (w : State) (d strings : Bytes) (own : Bool) (name value : Bytes) (size : ℕ) (z : size ≡ 12 + padded (length value)) where
-  pub property-refused : (n : ℕ) → refuses n 0 ≡ placed w (length d) strings own name size
-      → (record { verdict = refuses n 0; state = w } ≡ property w (length d) strings own name value)
+module _ (w : State) (d strings : Bytes) (own : Bool) (name value : Bytes) (size : ℕ) (z : size ≡ 12 + padded (length value)) (r : Place) (f : placeOf r ≡ placed w (length d) strings own name size) where
+  pub property-refused : (e : Error) → r ≡ Not e
+      → (record { verdict = refuses (numberOf e) 0; state = w } ≡ property w (length d) strings own name value)
       × ((d ≡ propertyData w d strings own name value) × (strings ≡ propertyStrings w (length d) strings own name value))
   unfolding placed property propertyData propertyStrings
-  property-refused n e =
-      let v : refuses n 0 ≡ propertyJudged w (length d) strings own name value = refuses-judged _ n _ e ∙ sym (by-size w (length d) strings own name value size z) in
+  property-refused e t =
+      let n = numberOf e in
+      let v : refuses n 0 ≡ propertyJudged w (length d) strings own name value =
+      refuses-judged _ n _ (ap placeOf (sym t) ∙ f) ∙ sym (by-size w (length d) strings own name value size z) in
       (answer-refused _ n w (withProperty w strings name value) v, (kept _ n d _ v, kept _ n strings _ v))
 
-  pub property-done : (offset : ℕ) (d₁ s₁ : Bytes) → gives offset ≡ placed w (length d) strings own name size
-      → d₁ ≡ lay d (w .dataLength) (propertyBytes offset value) → s₁ ≡ lay strings (w .stringsLength) (grown offset (w .stringsLength) name)
-      → (record { verdict = passes; state = longer w size (length (grown offset (w .stringsLength) name)) } ≡ property w (length d) strings own name value)
+  pub property-done : (offset : ℕ) → r ≡ At offset → (d₁ s₁ : Bytes) (x : State)
+      → d₁ ≡ lay d (w .dataLength) (propertyBytes offset value)
+      → s₁ ≡ lay strings (w .stringsLength) (grown offset (w .stringsLength) name)
+      → x ≡ longer w size (length (grown offset (w .stringsLength) name))
+      → (record { verdict = passes; state = x } ≡ property w (length d) strings own name value)
       × ((d₁ ≡ propertyData w d strings own name value) × (s₁ ≡ propertyStrings w (length d) strings own name value))
   unfolding property propertyData propertyStrings
-  property-done offset d₁ s₁ e f g =
-      let v : passes ≡ propertyJudged w (length d) strings own name value = was-judged w (length d) strings own name size offset e ∙ sym (by-size w (length d) strings own name value size z) in
+  property-done offset t d₁ s₁ x g h k =
+      let e = ap placeOf (sym t) ∙ f in
+      let v : passes ≡ propertyJudged w (length d) strings own name value =
+      was-judged w (length d) strings own name size offset e ∙ sym (by-size w (length d) strings own name value size z) in
       let p = was-placed w (length d) strings own name size offset e in
       let n : size ≡ length (propertyAt w strings name value) = z ∙ sym (length-property (nameOffset name (stringsOf w strings)) value) in (
-        rw (n, ← p .grows) (answer-done _ w (withProperty w strings name value) v),
+        rw (k, n, ← p .grows) (answer-done _ w (withProperty w strings name value) v),
         (
-          changed _ d d₁ (w .dataLength) (propertyAt w strings name value) v (omega (arith, p .dataFits)) (rw (p .found) at f),
-          changed _ strings s₁ (w .stringsLength) (growth w strings name) v (p .stringsFit) (rw (← p .grows) at g),
+          changed _ d d₁ (w .dataLength) (propertyAt w strings name value) v (omega (arith, p .dataFits)) (rw (p .found) at g),
+          changed _ strings s₁ (w .stringsLength) (growth w strings name) v (p .stringsFit) (rw (← p .grows) at h),
         ),
       )
 

@@ -1,20 +1,24 @@
 // The writer of devicetree blobs: a state by value, and the buffers that each call is lent.
 mod judge;
+mod start;
 
 use judge::Judged;
 use judge::Place;
+use reservation::Reservation;
 use rules::FDT_END;
 use rules::FDT_HEADER_SIZE;
 use rules::FDT_LAST_COMP_VERSION;
 use rules::FDT_MAGIC;
 use rules::FDT_VERSION;
+use rules::RESERVATION_CEILING;
 ghost use mathlib.Core.Path.{_≡_};
 ghost use mathlib.Core.Bool.{false};
 ghost use mathlib.Core.List.{[]};
 ghost use Prim.Native.Nat.{_+_, _≤_};
 ghost use lib.ListN.{length};
 ghost use Rattle.rules.specs.Octets.{be32, be64, words32, words64, closed, lay};
-ghost use Rattle.rules.specs.Writer.{beginNode, beginNodeData, endNode, endNodeData, setBootCpu, property, propertyData, propertyStrings, badString, badList, phandle, phandleData, phandleStrings, phandleTable, finish, finishData};
+ghost use Rattle.rules.specs.Writer.{fresh, start, startData, beginNode, beginNodeData, endNode, endNodeData, setBootCpu, property, propertyData, propertyStrings, badString, badList, phandle, phandleData, phandleStrings, phandleTable, finish, finishData};
+ghost use Rattle.reservation.specs.Made.{entriesOf};
 ghost use Rattle.writer.specs.Meaning.{stateOf, meaning};
 ghost use Rattle.writer.specs.Judged.{grown, longer};
 
@@ -72,6 +76,55 @@ pub enum Written {
 }
 
 impl FdtWriter {
+    // Starts a blob with no reservations. Refuses NoRoom (33).
+    pub fn new(data: &mut [u8]) -> Written
+        ensures answer { λ r. ⌜ meaning r ≡ start (length (now («data» .entry))) [] 0 ⌝ }
+        ensures bytes { λ _. ⌜ now («data» .exit) ≡ startData (now («data» .entry)) [] 0 ⌝ }
+    {
+        let n = start::start_size(0);
+        if judge::short(data.len(), 0, n) {
+            return Written::Refused(FdtWriter::fresh(0, true), Error::NoRoom);
+        }
+        octets::put_zeros(data, 0, n);
+        Written::Done(FdtWriter::fresh(n, false))
+    }
+
+    // Starts a blob with the first `count` reservations. Refuses, in this order: NoRoom (33) for over 32 of them,
+    // InvalidMemoryReservation (27), OverlappingMemoryReservations (28), NoRoom (33) in data. A refused start gives zeros
+    // marked finished.
+    pub fn new_with_mem_reserv(
+        data: &mut [u8],
+        reservations: [Reservation; RESERVATION_CEILING],
+        count: usize,
+    ) -> Written
+        ensures answer { λ r. ⌜ meaning r ≡ start (length (now («data» .entry))) (entriesOf reservations) count ⌝ }
+        ensures bytes { λ _. ⌜ now («data» .exit) ≡ startData (now («data» .entry)) (entriesOf reservations) count ⌝ }
+    {
+        match start::judge_start(data.len(), reservations, count) {
+            Judged::No(e) => Written::Refused(FdtWriter::fresh(0, true), e),
+            Judged::Passed => {
+                start::write_start(data, reservations, count);
+                Written::Done(FdtWriter::fresh(start::start_size(count), false))
+            }
+        }
+    }
+
+    // A state of n bytes of data, nothing open.
+    fn fresh(n: usize, finished: bool) -> FdtWriter
+        ensures { λ r. ⌜ stateOf r ≡ fresh n finished ⌝ }
+    {
+        FdtWriter {
+            data_len: n,
+            off_dt_struct: n,
+            strings_len: 0,
+            phandles_len: 0,
+            node_depth: 0,
+            node_ended: false,
+            finished: finished,
+            boot_cpuid_phys: 0,
+        }
+    }
+
     // Sets the boot CPU of the header. Never refuses.
     pub fn set_boot_cpuid_phys(mut self, boot_cpuid_phys: u32) -> FdtWriter
         ensures { λ r. ⌜ stateOf r ≡ setBootCpu (stateOf self) «boot_cpuid_phys» ⌝ }

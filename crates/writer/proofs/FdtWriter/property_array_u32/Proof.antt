@@ -1,13 +1,12 @@
 -- `FdtWriter::property_array_u32` meets its contract.
-use mathlib.Core.Path.{_≡_, refl, sym, ap, _∙_}
+use mathlib.Core.Path.{_≡_}
 use mathlib.Core.Bool.{false}
 use lib.ListN.{length}
 use denote.Ref.{now}
 use Rattle.rules.specs.Octets.{words32}
 use Rattle.rules.specs.Laws.Writer.{length-words32}
 use Rattle.writer.specs.Meaning.{stateOf}
-use Rattle.writer.specs.Judged.{placeOf}
-use Rattle.writer.proofs.Properties.{was-placed, with-done, size-of, property-refused, property-done}
+use Rattle.writer.proofs.Properties.{at-place, size-of, property-refused, property-done}
 use borrow.Author.Needs.{needs}
 use Rattle.writer.proofs.FdtWriter.property_array_u32.Statement.{statement}
 use Rattle.writer.proofs.FdtWriter.property_array_u32.Tie as tie
@@ -32,7 +31,7 @@ property-words-requires c κs = search needs
 
 with-property-requires : tie.Need-with-property-requires
 with-property-requires c κs =
-    let p = was-placed (stateOf (c .before .before .before .before .before .before .before .before .before .before .before .before .before .before .before .args .self)) (length (now (c .before .before .before .before .before .before .before .before .before .before .before .before .before .before .before .args .«data»))) (now (c .before .before .before .before .before .before .before .before .before .before .before .before .before .before .before .args .strings)) false (now (c .before .before .before .before .before .before .before .before .before .before .before .before .before .before .before .args .name)) (c .before .before .before .before .before .before .before .before .before .before .property-size .result) _ (ap placeOf (sym (c .before .before .before .before .before .before .offset .given .1)) ∙ c .before .before .before .before .before .before .before .before .property .ensures) in
+    let p = at-place (stateOf (c .before .before .before .before .before .before .before .before .before .before .before .before .before .before .before .args .self)) (length (now (c .before .before .before .before .before .before .before .before .before .before .before .before .before .before .before .args .«data»))) (now (c .before .before .before .before .before .before .before .before .before .before .before .before .before .before .before .args .strings)) false (now (c .before .before .before .before .before .before .before .before .before .before .before .before .before .before .before .args .name)) (c .before .before .before .before .before .before .before .before .before .before .property-size .result) _ _ (c .before .before .before .before .before .before .offset .given .1) (c .before .before .before .before .before .before .before .before .property .ensures) in
     (p .dataSmall, p .stringsSmall)
 
 same-length : tie.Need-same-length
@@ -41,7 +40,7 @@ same-length c = search needs
 returns : tie.Need-returns
 returns c =
     let value = words32 (now (c .before .before .before .before .before .before .before .before .before .before .args .cells)) in
-    property-refused (stateOf (c .before .before .before .before .before .before .before .before .before .before .args .self)) (now (c .before .before .before .before .before .before .before .before .before .before .args .«data»)) (now (c .before .before .before .before .before .before .before .before .before .before .args .strings)) false (now (c .before .before .before .before .before .before .before .before .before .before .args .name)) value (c .before .before .before .before .before .property-size .result) (size-of _ _ value (c .before .before .before .before .before .property-size .ensures) (length-words32 (now (c .before .before .before .before .before .before .before .before .before .before .args .cells)))) _ (ap placeOf (sym (c .before .e .given .1)) ∙ c .before .before .before .property .ensures)
+    property-refused (stateOf (c .before .before .before .before .before .before .before .before .before .before .args .self)) (now (c .before .before .before .before .before .before .before .before .before .before .args .«data»)) (now (c .before .before .before .before .before .before .before .before .before .before .args .strings)) false (now (c .before .before .before .before .before .before .before .before .before .before .args .name)) value (c .before .before .before .before .before .property-size .result) (size-of _ _ value (c .before .before .before .before .before .property-size .ensures) (length-words32 (now (c .before .before .before .before .before .before .before .before .before .before .args .cells)))) _ (c .before .before .before .property .ensures) _ (c .before .e .given .1)
 
 same-length-2 : tie.Need-same-length-2
 same-length-2 c = search needs
@@ -52,8 +51,7 @@ same-length-3 c = search needs
 returns-2 : tie.Need-returns-2
 returns-2 c =
     let value = words32 (now (c .before .before .before .before .before .before .before .before .before .before .before .before .before .before .before .before .before .before .args .cells)) in
-    let done = property-done (stateOf (c .before .before .before .before .before .before .before .before .before .before .before .before .before .before .before .before .before .before .args .self)) (now (c .before .before .before .before .before .before .before .before .before .before .before .before .before .before .before .before .before .before .args .«data»)) (now (c .before .before .before .before .before .before .before .before .before .before .before .before .before .before .before .before .before .before .args .strings)) false (now (c .before .before .before .before .before .before .before .before .before .before .before .before .before .before .before .before .before .before .args .name)) value (c .before .before .before .before .before .before .before .before .before .before .before .before .before .property-size .result) (size-of _ _ value (c .before .before .before .before .before .before .before .before .before .before .before .before .before .property-size .ensures) (length-words32 (now (c .before .before .before .before .before .before .before .before .before .before .before .before .before .before .before .before .before .before .args .cells)))) _ _ _ (ap placeOf (sym (c .before .before .before .before .before .before .before .before .before .offset .given .1)) ∙ c .before .before .before .before .before .before .before .before .before .before .before .property .ensures) (c .before .before .before .before .before .before .property-words .ensures) (c .before .before .with-property .ensures .1) in
-    (ap with-done (c .before .before .with-property .ensures .0) ∙ done .0, done .1)
+    property-done (stateOf (c .before .before .before .before .before .before .before .before .before .before .before .before .before .before .before .before .before .before .args .self)) (now (c .before .before .before .before .before .before .before .before .before .before .before .before .before .before .before .before .before .before .args .«data»)) (now (c .before .before .before .before .before .before .before .before .before .before .before .before .before .before .before .before .before .before .args .strings)) false (now (c .before .before .before .before .before .before .before .before .before .before .before .before .before .before .before .before .before .before .args .name)) value (c .before .before .before .before .before .before .before .before .before .before .before .before .before .property-size .result) (size-of _ _ value (c .before .before .before .before .before .before .before .before .before .before .before .before .before .property-size .ensures) (length-words32 (now (c .before .before .before .before .before .before .before .before .before .before .before .before .before .before .before .before .before .before .args .cells)))) _ (c .before .before .before .before .before .before .before .before .before .before .before .property .ensures) _ (c .before .before .before .before .before .before .before .before .before .offset .given .1) _ _ _ (c .before .before .before .before .before .before .property-words .ensures) (c .before .before .with-property .ensures .1) (c .before .before .with-property .ensures .0)
 
 pub property-array-u32-spec : {M : Type 1} → statement M
 property-array-u32-spec = tie.close (tie.spec mul-property-size property-size-requires property-requires enum-known-e enum-known-offset property-words-requires with-property-requires same-length returns same-length-2 same-length-3 returns-2)

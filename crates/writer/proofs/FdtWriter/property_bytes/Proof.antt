@@ -1,10 +1,9 @@
 -- `FdtWriter::property_bytes` meets its contract.
-use mathlib.Core.Path.{_≡_, refl, sym, ap, _∙_}
+use mathlib.Core.Path.{_≡_}
 use lib.ListN.{length}
 use denote.Ref.{now}
 use Rattle.writer.specs.Meaning.{stateOf}
-use Rattle.writer.specs.Judged.{placeOf}
-use Rattle.writer.proofs.Properties.{was-placed, with-done, property-refused, property-done}
+use Rattle.writer.proofs.Properties.{at-place, property-refused, property-done}
 use borrow.Author.Needs.{needs}
 use Rattle.writer.proofs.FdtWriter.property_bytes.Statement.{statement}
 use Rattle.writer.proofs.FdtWriter.property_bytes.Tie as tie
@@ -26,14 +25,14 @@ property-requires-2 c κs = search needs
 
 with-property-requires : tie.Need-with-property-requires
 with-property-requires c κs =
-    let p = was-placed (stateOf (c .before .before .before .before .before .before .before .before .before .before .before .before .before .before .before .args .self)) (length (now (c .before .before .before .before .before .before .before .before .before .before .before .before .before .before .before .args .«data»))) (now (c .before .before .before .before .before .before .before .before .before .before .before .before .before .before .before .args .strings)) (c .before .before .before .before .before .before .before .before .before .before .before .before .before .before .before .args .own) (now (c .before .before .before .before .before .before .before .before .before .before .before .before .before .before .before .args .name)) (c .before .before .before .before .before .before .before .before .before .before .property-size .result) _ (ap placeOf (sym (c .before .before .before .before .before .before .offset .given .1)) ∙ c .before .before .before .before .before .before .before .before .property .ensures) in
+    let p = at-place (stateOf (c .before .before .before .before .before .before .before .before .before .before .before .before .before .before .before .args .self)) (length (now (c .before .before .before .before .before .before .before .before .before .before .before .before .before .before .before .args .«data»))) (now (c .before .before .before .before .before .before .before .before .before .before .before .before .before .before .before .args .strings)) (c .before .before .before .before .before .before .before .before .before .before .before .before .before .before .before .args .own) (now (c .before .before .before .before .before .before .before .before .before .before .before .before .before .before .before .args .name)) (c .before .before .before .before .before .before .before .before .before .before .property-size .result) _ _ (c .before .before .before .before .before .before .offset .given .1) (c .before .before .before .before .before .before .before .before .property .ensures) in
     (p .dataSmall, p .stringsSmall)
 
 same-length : tie.Need-same-length
 same-length c = search needs
 
 returns : tie.Need-returns
-returns c = property-refused (stateOf (c .before .before .before .before .before .before .before .before .before .before .args .self)) (now (c .before .before .before .before .before .before .before .before .before .before .args .«data»)) (now (c .before .before .before .before .before .before .before .before .before .before .args .strings)) (c .before .before .before .before .before .before .before .before .before .before .args .own) (now (c .before .before .before .before .before .before .before .before .before .before .args .name)) (now (c .before .before .before .before .before .before .before .before .before .before .args .val)) (c .before .before .before .before .before .property-size .result) (c .before .before .before .before .before .property-size .ensures) _ (ap placeOf (sym (c .before .e .given .1)) ∙ c .before .before .before .property .ensures)
+returns c = property-refused (stateOf (c .before .before .before .before .before .before .before .before .before .before .args .self)) (now (c .before .before .before .before .before .before .before .before .before .before .args .«data»)) (now (c .before .before .before .before .before .before .before .before .before .before .args .strings)) (c .before .before .before .before .before .before .before .before .before .before .args .own) (now (c .before .before .before .before .before .before .before .before .before .before .args .name)) (now (c .before .before .before .before .before .before .before .before .before .before .args .val)) (c .before .before .before .before .before .property-size .result) (c .before .before .before .before .before .property-size .ensures) _ (c .before .before .before .property .ensures) _ (c .before .e .given .1)
 
 same-length-2 : tie.Need-same-length-2
 same-length-2 c = search needs
@@ -42,9 +41,7 @@ same-length-3 : tie.Need-same-length-3
 same-length-3 c = search needs
 
 returns-2 : tie.Need-returns-2
-returns-2 c =
-    let done = property-done (stateOf (c .before .before .before .before .before .before .before .before .before .before .before .before .before .before .before .before .before .before .args .self)) (now (c .before .before .before .before .before .before .before .before .before .before .before .before .before .before .before .before .before .before .args .«data»)) (now (c .before .before .before .before .before .before .before .before .before .before .before .before .before .before .before .before .before .before .args .strings)) (c .before .before .before .before .before .before .before .before .before .before .before .before .before .before .before .before .before .before .args .own) (now (c .before .before .before .before .before .before .before .before .before .before .before .before .before .before .before .before .before .before .args .name)) (now (c .before .before .before .before .before .before .before .before .before .before .before .before .before .before .before .before .before .before .args .val)) (c .before .before .before .before .before .before .before .before .before .before .before .before .before .property-size .result) (c .before .before .before .before .before .before .before .before .before .before .before .before .before .property-size .ensures) _ _ _ (ap placeOf (sym (c .before .before .before .before .before .before .before .before .before .offset .given .1)) ∙ c .before .before .before .before .before .before .before .before .before .before .before .property .ensures) (c .before .before .before .before .before .before .property2 .ensures) (c .before .before .with-property .ensures .1) in
-    (ap with-done (c .before .before .with-property .ensures .0) ∙ done .0, done .1)
+returns-2 c = property-done (stateOf (c .before .before .before .before .before .before .before .before .before .before .before .before .before .before .before .before .before .before .args .self)) (now (c .before .before .before .before .before .before .before .before .before .before .before .before .before .before .before .before .before .before .args .«data»)) (now (c .before .before .before .before .before .before .before .before .before .before .before .before .before .before .before .before .before .before .args .strings)) (c .before .before .before .before .before .before .before .before .before .before .before .before .before .before .before .before .before .before .args .own) (now (c .before .before .before .before .before .before .before .before .before .before .before .before .before .before .before .before .before .before .args .name)) (now (c .before .before .before .before .before .before .before .before .before .before .before .before .before .before .before .before .before .before .args .val)) (c .before .before .before .before .before .before .before .before .before .before .before .before .before .property-size .result) (c .before .before .before .before .before .before .before .before .before .before .before .before .before .property-size .ensures) _ (c .before .before .before .before .before .before .before .before .before .before .before .property .ensures) _ (c .before .before .before .before .before .before .before .before .before .offset .given .1) _ _ _ (c .before .before .before .before .before .before .property2 .ensures) (c .before .before .with-property .ensures .1) (c .before .before .with-property .ensures .0)
 
 pub property-bytes-spec : {M : Type 1} → statement M
 property-bytes-spec = tie.close (tie.spec property-size-requires property-requires enum-known-e enum-known-offset property-requires-2 with-property-requires same-length returns same-length-2 same-length-3 returns-2)

@@ -1,14 +1,12 @@
 -- `FdtWriter::property_phandle` meets its contract.
-use mathlib.Core.Path.{_≡_, refl, sym, ap, _∙_}
+use mathlib.Core.Path.{_≡_}
 use native.Mathlib.Omega.{arith}
 use lib.ListN.{length}
 use denote.Ref.{now}
 use Rattle.rules.specs.Octets.{ascii}
 use Rattle.rules.specs.Laws.Writer.{words32-one}
 use Rattle.writer.specs.Meaning.{stateOf}
-use Rattle.writer.specs.Judged.{placeOf}
-use Rattle.writer.proofs.Properties.{with-done}
-use Rattle.writer.proofs.Phandles.{was-noted, phandle-refused, phandle-done}
+use Rattle.writer.proofs.Phandles.{at-noted, phandle-refused, phandle-done}
 use borrow.Author.Needs.{needs}
 use Rattle.writer.proofs.FdtWriter.property_phandle.Statement.{statement}
 use Rattle.writer.proofs.FdtWriter.property_phandle.Tie as tie
@@ -33,7 +31,7 @@ put-word-of-requires c κs = search needs
 
 add-self : tie.Need-add-self
 add-self c =
-    let q = was-noted (stateOf (c .before .before .before .before .before .before .before .before .before .before .before .before .before .before .before .before .before .before .before .args .self)) (length (now (c .before .before .before .before .before .before .before .before .before .before .before .before .before .before .before .before .before .before .before .args .«data»))) (now (c .before .before .before .before .before .before .before .before .before .before .before .before .before .before .before .before .before .before .before .args .strings)) (now (c .before .before .before .before .before .before .before .before .before .before .before .before .before .before .before .before .before .before .before .args .phandles)) (c .before .before .before .before .before .before .before .before .before .before .before .before .before .before .before .before .before .before .before .args .val) _ (ap placeOf (sym (c .before .before .before .before .before .before .before .before .before .before .before .offset .given .1)) ∙ c .before .before .before .before .before .before .before .before .before .before .before .before .before .phandle .ensures) in
+    let q = at-noted (stateOf (c .before .before .before .before .before .before .before .before .before .before .before .before .before .before .before .before .before .before .before .args .self)) (length (now (c .before .before .before .before .before .before .before .before .before .before .before .before .before .before .before .before .before .before .before .args .«data»))) (now (c .before .before .before .before .before .before .before .before .before .before .before .before .before .before .before .before .before .before .before .args .strings)) (now (c .before .before .before .before .before .before .before .before .before .before .before .before .before .before .before .before .before .before .before .args .phandles)) (c .before .before .before .before .before .before .before .before .before .before .before .before .before .before .before .before .before .before .before .args .val) _ _ (c .before .before .before .before .before .before .before .before .before .before .before .offset .given .1) (c .before .before .before .before .before .before .before .before .before .before .before .before .before .phandle .ensures) in
     omega (arith, q .entry)
 
 slice-aggregate-with-property : tie.Need-slice-aggregate-with-property
@@ -41,7 +39,7 @@ slice-aggregate-with-property c = search needs
 
 with-property-requires : tie.Need-with-property-requires
 with-property-requires c κs =
-    let q = was-noted (stateOf (c .before .before .before .before .before .before .before .before .before .before .before .before .before .before .before .before .before .before .before .before .before .args .self)) (length (now (c .before .before .before .before .before .before .before .before .before .before .before .before .before .before .before .before .before .before .before .before .before .args .«data»))) (now (c .before .before .before .before .before .before .before .before .before .before .before .before .before .before .before .before .before .before .before .before .before .args .strings)) (now (c .before .before .before .before .before .before .before .before .before .before .before .before .before .before .before .before .before .before .before .before .before .args .phandles)) (c .before .before .before .before .before .before .before .before .before .before .before .before .before .before .before .before .before .before .before .before .before .args .val) _ (ap placeOf (sym (c .before .before .before .before .before .before .before .before .before .before .before .before .before .offset .given .1)) ∙ c .before .before .before .before .before .before .before .before .before .before .before .before .before .before .before .phandle .ensures) in
+    let q = at-noted (stateOf (c .before .before .before .before .before .before .before .before .before .before .before .before .before .before .before .before .before .before .before .before .before .args .self)) (length (now (c .before .before .before .before .before .before .before .before .before .before .before .before .before .before .before .before .before .before .before .before .before .args .«data»))) (now (c .before .before .before .before .before .before .before .before .before .before .before .before .before .before .before .before .before .before .before .before .before .args .strings)) (now (c .before .before .before .before .before .before .before .before .before .before .before .before .before .before .before .before .before .before .before .before .before .args .phandles)) (c .before .before .before .before .before .before .before .before .before .before .before .before .before .before .before .before .before .before .before .before .before .args .val) _ _ (c .before .before .before .before .before .before .before .before .before .before .before .before .before .offset .given .1) (c .before .before .before .before .before .before .before .before .before .before .before .before .before .before .before .phandle .ensures) in
     (q .place .dataSmall, q .place .stringsSmall)
 
 same-length : tie.Need-same-length
@@ -51,7 +49,7 @@ same-length-2 : tie.Need-same-length-2
 same-length-2 c = search needs
 
 returns : tie.Need-returns
-returns c = phandle-refused (stateOf (c .before .before .before .before .before .before .before .before .before .args .self)) (now (c .before .before .before .before .before .before .before .before .before .args .«data»)) (now (c .before .before .before .before .before .before .before .before .before .args .strings)) (now (c .before .before .before .before .before .before .before .before .before .args .phandles)) (c .before .before .before .before .before .before .before .before .before .args .val) _ (ap placeOf (sym (c .before .e .given .1)) ∙ c .before .before .before .phandle .ensures)
+returns c = phandle-refused (stateOf (c .before .before .before .before .before .before .before .before .before .args .self)) (now (c .before .before .before .before .before .before .before .before .before .args .«data»)) (now (c .before .before .before .before .before .before .before .before .before .args .strings)) (now (c .before .before .before .before .before .before .before .before .before .args .phandles)) (c .before .before .before .before .before .before .before .before .before .args .val) _ (c .before .before .before .phandle .ensures) _ (c .before .e .given .1)
 
 same-length-3 : tie.Need-same-length-3
 same-length-3 c = search needs
@@ -64,9 +62,7 @@ same-length-5 c = search needs
 
 returns-2 : tie.Need-returns-2
 unfolding ascii
-returns-2 c =
-    let done = phandle-done (stateOf (c .before .before .before .before .before .before .before .before .before .before .before .before .before .before .before .before .before .before .before .before .before .before .before .before .args .self)) (now (c .before .before .before .before .before .before .before .before .before .before .before .before .before .before .before .before .before .before .before .before .before .before .before .before .args .«data»)) (now (c .before .before .before .before .before .before .before .before .before .before .before .before .before .before .before .before .before .before .before .before .before .before .before .before .args .strings)) (now (c .before .before .before .before .before .before .before .before .before .before .before .before .before .before .before .before .before .before .before .before .before .before .before .before .args .phandles)) (c .before .before .before .before .before .before .before .before .before .before .before .before .before .before .before .before .before .before .before .before .before .before .before .before .args .val) _ _ _ _ (ap placeOf (sym (c .before .before .before .before .before .before .before .before .before .before .before .before .before .before .before .before .offset .given .1)) ∙ c .before .before .before .before .before .before .before .before .before .before .before .before .before .before .before .before .before .before .phandle .ensures) (rw (words32-one (c .before .before .before .before .before .before .before .before .before .before .before .before .before .before .before .before .before .before .before .before .before .before .before .before .args .val)) at (c .before .before .before .before .before .before .before .before .before .before .before .before .property-words .ensures)) (c .before .before .with-property .ensures .1) (c .before .before .before .before .before .before .before .before .put-word-of .ensures) in
-    (ap with-done (c .before .before .with-property .ensures .0) ∙ done .0, done .1)
+returns-2 c = phandle-done (stateOf (c .before .before .before .before .before .before .before .before .before .before .before .before .before .before .before .before .before .before .before .before .before .before .before .before .args .self)) (now (c .before .before .before .before .before .before .before .before .before .before .before .before .before .before .before .before .before .before .before .before .before .before .before .before .args .«data»)) (now (c .before .before .before .before .before .before .before .before .before .before .before .before .before .before .before .before .before .before .before .before .before .before .before .before .args .strings)) (now (c .before .before .before .before .before .before .before .before .before .before .before .before .before .before .before .before .before .before .before .before .before .before .before .before .args .phandles)) (c .before .before .before .before .before .before .before .before .before .before .before .before .before .before .before .before .before .before .before .before .before .before .before .before .args .val) _ (c .before .before .before .before .before .before .before .before .before .before .before .before .before .before .before .before .before .before .phandle .ensures) _ (c .before .before .before .before .before .before .before .before .before .before .before .before .before .before .before .before .offset .given .1) _ _ _ _ (rw (words32-one (c .before .before .before .before .before .before .before .before .before .before .before .before .before .before .before .before .before .before .before .before .before .before .before .before .args .val)) at (c .before .before .before .before .before .before .before .before .before .before .before .before .property-words .ensures)) (c .before .before .with-property .ensures .1) (c .before .before .before .before .before .before .before .before .put-word-of .ensures) (c .before .before .with-property .ensures .0)
 
 pub property-phandle-spec : {M : Type 1} → statement M
 property-phandle-spec = tie.close (tie.spec phandle-requires enum-known-e enum-known-offset slice-aggregate-property-words property-words-requires put-word-of-requires add-self slice-aggregate-with-property with-property-requires same-length same-length-2 returns same-length-3 same-length-4 same-length-5 returns-2)

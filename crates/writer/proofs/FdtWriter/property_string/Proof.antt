@@ -1,12 +1,11 @@
 -- `FdtWriter::property_string` meets its contract.
-use mathlib.Core.Path.{_≡_, refl, sym, ap, _∙_}
+use mathlib.Core.Path.{_≡_}
 use lib.ListN.{length}
 use denote.Ref.{now}
 use Rattle.rules.specs.Octets.{hasNul, closed}
 use Rattle.rules.specs.Laws.Writer.{length-closed}
 use Rattle.writer.specs.Meaning.{stateOf}
-use Rattle.writer.specs.Judged.{placeOf}
-use Rattle.writer.proofs.Properties.{was-placed, with-done, size-of, property-refused, property-done}
+use Rattle.writer.proofs.Properties.{at-place, size-of, property-refused, property-done}
 use borrow.Author.Needs.{needs}
 use Rattle.writer.proofs.FdtWriter.property_string.Statement.{statement}
 use Rattle.writer.proofs.FdtWriter.property_string.Tie as tie
@@ -34,7 +33,7 @@ property-string-requires c κs = search needs
 
 with-property-requires : tie.Need-with-property-requires
 with-property-requires c κs =
-    let p = was-placed (stateOf (c .before .before .before .before .before .before .before .before .before .before .before .before .before .before .before .before .args .self)) (length (now (c .before .before .before .before .before .before .before .before .before .before .before .before .before .before .before .before .args .«data»))) (now (c .before .before .before .before .before .before .before .before .before .before .before .before .before .before .before .before .args .strings)) (c .before .before .before .before .before .before .before .before .before .before .before .has-nul .result) (now (c .before .before .before .before .before .before .before .before .before .before .before .before .before .before .before .before .args .name)) (c .before .before .before .before .before .before .before .before .before .before .property-size .result) _ (ap placeOf (sym (c .before .before .before .before .before .before .offset .given .1)) ∙ c .before .before .before .before .before .before .before .before .property .ensures) in
+    let p = at-place (stateOf (c .before .before .before .before .before .before .before .before .before .before .before .before .before .before .before .before .args .self)) (length (now (c .before .before .before .before .before .before .before .before .before .before .before .before .before .before .before .before .args .«data»))) (now (c .before .before .before .before .before .before .before .before .before .before .before .before .before .before .before .before .args .strings)) (c .before .before .before .before .before .before .before .before .before .before .before .has-nul .result) (now (c .before .before .before .before .before .before .before .before .before .before .before .before .before .before .before .before .args .name)) (c .before .before .before .before .before .before .before .before .before .before .property-size .result) _ _ (c .before .before .before .before .before .before .offset .given .1) (c .before .before .before .before .before .before .before .before .property .ensures) in
     (p .dataSmall, p .stringsSmall)
 
 same-length : tie.Need-same-length
@@ -43,7 +42,7 @@ same-length c = search needs
 returns : tie.Need-returns
 returns c =
     let value = closed (now (c .before .before .before .before .before .before .before .before .before .before .before .args .val)) in
-    property-refused (stateOf (c .before .before .before .before .before .before .before .before .before .before .before .args .self)) (now (c .before .before .before .before .before .before .before .before .before .before .before .args .«data»)) (now (c .before .before .before .before .before .before .before .before .before .before .before .args .strings)) (hasNul (now (c .before .before .before .before .before .before .before .before .before .before .before .args .val))) (now (c .before .before .before .before .before .before .before .before .before .before .before .args .name)) value (c .before .before .before .before .before .property-size .result) (size-of _ _ value (c .before .before .before .before .before .property-size .ensures) (length-closed (now (c .before .before .before .before .before .before .before .before .before .before .before .args .val)))) _ (ap placeOf (sym (c .before .e .given .1)) ∙ rw (c .before .before .before .before .before .before .has-nul .ensures) at (c .before .before .before .property .ensures))
+    property-refused (stateOf (c .before .before .before .before .before .before .before .before .before .before .before .args .self)) (now (c .before .before .before .before .before .before .before .before .before .before .before .args .«data»)) (now (c .before .before .before .before .before .before .before .before .before .before .before .args .strings)) (hasNul (now (c .before .before .before .before .before .before .before .before .before .before .before .args .val))) (now (c .before .before .before .before .before .before .before .before .before .before .before .args .name)) value (c .before .before .before .before .before .property-size .result) (size-of _ _ value (c .before .before .before .before .before .property-size .ensures) (length-closed (now (c .before .before .before .before .before .before .before .before .before .before .before .args .val)))) _ (rw (c .before .before .before .before .before .before .has-nul .ensures) at (c .before .before .before .property .ensures)) _ (c .before .e .given .1)
 
 same-length-2 : tie.Need-same-length-2
 same-length-2 c = search needs
@@ -54,8 +53,7 @@ same-length-3 c = search needs
 returns-2 : tie.Need-returns-2
 returns-2 c =
     let value = closed (now (c .before .before .before .before .before .before .before .before .before .before .before .before .before .before .before .before .before .before .before .args .val)) in
-    let done = property-done (stateOf (c .before .before .before .before .before .before .before .before .before .before .before .before .before .before .before .before .before .before .before .args .self)) (now (c .before .before .before .before .before .before .before .before .before .before .before .before .before .before .before .before .before .before .before .args .«data»)) (now (c .before .before .before .before .before .before .before .before .before .before .before .before .before .before .before .before .before .before .before .args .strings)) (hasNul (now (c .before .before .before .before .before .before .before .before .before .before .before .before .before .before .before .before .before .before .before .args .val))) (now (c .before .before .before .before .before .before .before .before .before .before .before .before .before .before .before .before .before .before .before .args .name)) value (c .before .before .before .before .before .before .before .before .before .before .before .before .before .property-size .result) (size-of _ _ value (c .before .before .before .before .before .before .before .before .before .before .before .before .before .property-size .ensures) (length-closed (now (c .before .before .before .before .before .before .before .before .before .before .before .before .before .before .before .before .before .before .before .args .val)))) _ _ _ (ap placeOf (sym (c .before .before .before .before .before .before .before .before .before .offset .given .1)) ∙ rw (c .before .before .before .before .before .before .before .before .before .before .before .before .before .before .has-nul .ensures) at (c .before .before .before .before .before .before .before .before .before .before .before .property .ensures)) (c .before .before .before .before .before .before .property-string .ensures) (c .before .before .with-property .ensures .1) in
-    (ap with-done (c .before .before .with-property .ensures .0) ∙ done .0, done .1)
+    property-done (stateOf (c .before .before .before .before .before .before .before .before .before .before .before .before .before .before .before .before .before .before .before .args .self)) (now (c .before .before .before .before .before .before .before .before .before .before .before .before .before .before .before .before .before .before .before .args .«data»)) (now (c .before .before .before .before .before .before .before .before .before .before .before .before .before .before .before .before .before .before .before .args .strings)) (hasNul (now (c .before .before .before .before .before .before .before .before .before .before .before .before .before .before .before .before .before .before .before .args .val))) (now (c .before .before .before .before .before .before .before .before .before .before .before .before .before .before .before .before .before .before .before .args .name)) value (c .before .before .before .before .before .before .before .before .before .before .before .before .before .property-size .result) (size-of _ _ value (c .before .before .before .before .before .before .before .before .before .before .before .before .before .property-size .ensures) (length-closed (now (c .before .before .before .before .before .before .before .before .before .before .before .before .before .before .before .before .before .before .before .args .val)))) _ (rw (c .before .before .before .before .before .before .before .before .before .before .before .before .before .before .has-nul .ensures) at (c .before .before .before .before .before .before .before .before .before .before .before .property .ensures)) _ (c .before .before .before .before .before .before .before .before .before .offset .given .1) _ _ _ (c .before .before .before .before .before .before .property-string .ensures) (c .before .before .with-property .ensures .1) (c .before .before .with-property .ensures .0)
 
 pub property-string-spec : {M : Type 1} → statement M
 property-string-spec = tie.close (tie.spec has-nul-requires add-property-size property-size-requires property-requires enum-known-e enum-known-offset property-string-requires with-property-requires same-length returns same-length-2 same-length-3 returns-2)

@@ -11,7 +11,7 @@ use Rattle.rules.specs.Octets.{ascii}
 use Rattle.rules.specs.Lists.{oneOf}
 use Rattle.rules.specs.Writer.{impossible, phandleJudged}
 use Rattle.writer.specs.Meaning.{stateOf}
-use Rattle.writer.specs.Judged.{placeOf, phandlePlaced}
+use Rattle.writer.specs.Judged.{phandlePlaced}
 use Rattle.writer.proofs.Phandles.{phandle-not, phandle-full, phandle-at}
 use borrow.Author.Needs.{needs}
 use Rattle.writer.proofs.judge.phandle.Statement.{statement}
@@ -62,7 +62,7 @@ returns-4 c =
     let t1 : impossible (stateOf (c .before .before .before .before .before .before .before .before .before .before .before .before .before .args .w)) (c .before .before .before .before .before .before .before .before .before .before .before .before .before .args .data-lent) (length (now (c .before .before .before .before .before .before .before .before .before .before .before .before .before .args .strings))) ≡ false = sym (c .before .before .before .before .before .before .before .before .before .before .impossible .ensures) ∙ c .before .before .before .before .before .before .before .before .before .if1 .left in
     let t2 : ltb (length (now (c .before .before .before .before .before .before .before .before .before .before .before .before .before .args .phandles))) (c .before .before .before .before .before .before .before .before .before .before .before .before .before .args .w .«phandles_len») ≡ false = le-ltb (length (now (c .before .before .before .before .before .before .before .before .before .before .before .before .before .args .phandles))) (c .before .before .before .before .before .before .before .before .before .before .before .before .before .args .w .«phandles_len») (c .before .before .before .before .before .before .before .before .if2 .left) in
     let t3 : oneOf (c .before .before .before .before .before .before .before .before .before .before .before .before .before .args .val) (take (c .before .before .before .before .before .before .before .before .before .before .before .before .before .args .w .«phandles_len») (now (c .before .before .before .before .before .before .before .before .before .before .before .before .before .args .phandles))) ≡ false = sym (c .before .before .before .before .before .before .before .noted .ensures) ∙ c .before .before .before .before .before .before .if3 .left in
-    phandle-full (stateOf (c .before .before .before .before .before .before .before .before .before .before .before .before .before .args .w)) (c .before .before .before .before .before .before .before .before .before .before .before .before .before .args .data-lent) (now (c .before .before .before .before .before .before .before .before .before .before .before .before .before .args .strings)) (now (c .before .before .before .before .before .before .before .before .before .before .before .before .before .args .phandles)) (c .before .before .before .before .before .before .before .before .before .before .before .before .before .args .val) t1 t2 t3 _ (ap placeOf (sym (c .before .before .offset .given .1)) ∙ c .before .before .before .before .property .ensures) (c .if4 .taken)
+    phandle-full (stateOf (c .before .before .before .before .before .before .before .before .before .before .before .before .before .args .w)) (c .before .before .before .before .before .before .before .before .before .before .before .before .before .args .data-lent) (now (c .before .before .before .before .before .before .before .before .before .before .before .before .before .args .strings)) (now (c .before .before .before .before .before .before .before .before .before .before .before .before .before .args .phandles)) (c .before .before .before .before .before .before .before .before .before .before .before .before .before .args .val) t1 t2 t3 _ (c .before .before .before .before .property .ensures) _ (c .before .before .offset .given .1) (c .if4 .taken)
 
 returns-5 : tie.Need-returns-5
 unfolding ascii
@@ -70,7 +70,7 @@ returns-5 c =
     let t1 : impossible (stateOf (c .before .before .before .before .before .before .before .before .before .before .before .before .args .w)) (c .before .before .before .before .before .before .before .before .before .before .before .before .args .data-lent) (length (now (c .before .before .before .before .before .before .before .before .before .before .before .before .args .strings))) ≡ false = sym (c .before .before .before .before .before .before .before .before .before .impossible .ensures) ∙ c .before .before .before .before .before .before .before .before .if1 .left in
     let t2 : ltb (length (now (c .before .before .before .before .before .before .before .before .before .before .before .before .args .phandles))) (c .before .before .before .before .before .before .before .before .before .before .before .before .args .w .«phandles_len») ≡ false = le-ltb (length (now (c .before .before .before .before .before .before .before .before .before .before .before .before .args .phandles))) (c .before .before .before .before .before .before .before .before .before .before .before .before .args .w .«phandles_len») (c .before .before .before .before .before .before .before .if2 .left) in
     let t3 : oneOf (c .before .before .before .before .before .before .before .before .before .before .before .before .args .val) (take (c .before .before .before .before .before .before .before .before .before .before .before .before .args .w .«phandles_len») (now (c .before .before .before .before .before .before .before .before .before .before .before .before .args .phandles))) ≡ false = sym (c .before .before .before .before .before .before .noted .ensures) ∙ c .before .before .before .before .before .if3 .left in
-    phandle-not (stateOf (c .before .before .before .before .before .before .before .before .before .before .before .before .args .w)) (c .before .before .before .before .before .before .before .before .before .before .before .before .args .data-lent) (now (c .before .before .before .before .before .before .before .before .before .before .before .before .args .strings)) (now (c .before .before .before .before .before .before .before .before .before .before .before .before .args .phandles)) (c .before .before .before .before .before .before .before .before .before .before .before .before .args .val) t1 t2 t3 _ (ap placeOf (sym (c .before .e .given .1)) ∙ c .before .before .before .property .ensures)
+    phandle-not (stateOf (c .before .before .before .before .before .before .before .before .before .before .before .before .args .w)) (c .before .before .before .before .before .before .before .before .before .before .before .before .args .data-lent) (now (c .before .before .before .before .before .before .before .before .before .before .before .before .args .strings)) (now (c .before .before .before .before .before .before .before .before .before .before .before .before .args .phandles)) (c .before .before .before .before .before .before .before .before .before .before .before .before .args .val) t1 t2 t3 _ (c .before .before .before .property .ensures) _ (c .before .e .given .1)
 
 returns-6 : tie.Need-returns-6
 unfolding ascii
@@ -78,7 +78,7 @@ returns-6 c =
     let t1 : impossible (stateOf (c .before .before .before .before .before .before .before .before .before .before .before .before .before .args .w)) (c .before .before .before .before .before .before .before .before .before .before .before .before .before .args .data-lent) (length (now (c .before .before .before .before .before .before .before .before .before .before .before .before .before .args .strings))) ≡ false = sym (c .before .before .before .before .before .before .before .before .before .before .impossible .ensures) ∙ c .before .before .before .before .before .before .before .before .before .if1 .left in
     let t2 : ltb (length (now (c .before .before .before .before .before .before .before .before .before .before .before .before .before .args .phandles))) (c .before .before .before .before .before .before .before .before .before .before .before .before .before .args .w .«phandles_len») ≡ false = le-ltb (length (now (c .before .before .before .before .before .before .before .before .before .before .before .before .before .args .phandles))) (c .before .before .before .before .before .before .before .before .before .before .before .before .before .args .w .«phandles_len») (c .before .before .before .before .before .before .before .before .if2 .left) in
     let t3 : oneOf (c .before .before .before .before .before .before .before .before .before .before .before .before .before .args .val) (take (c .before .before .before .before .before .before .before .before .before .before .before .before .before .args .w .«phandles_len») (now (c .before .before .before .before .before .before .before .before .before .before .before .before .before .args .phandles))) ≡ false = sym (c .before .before .before .before .before .before .before .noted .ensures) ∙ c .before .before .before .before .before .before .if3 .left in
-    phandle-at (stateOf (c .before .before .before .before .before .before .before .before .before .before .before .before .before .args .w)) (c .before .before .before .before .before .before .before .before .before .before .before .before .before .args .data-lent) (now (c .before .before .before .before .before .before .before .before .before .before .before .before .before .args .strings)) (now (c .before .before .before .before .before .before .before .before .before .before .before .before .before .args .phandles)) (c .before .before .before .before .before .before .before .before .before .before .before .before .before .args .val) t1 t2 t3 _ (ap placeOf (sym (c .before .before .offset .given .1)) ∙ c .before .before .before .before .property .ensures) (omega (arith, c .if4 .left, c .before .before .before .before .before .before .before .before .if2 .left))
+    phandle-at (stateOf (c .before .before .before .before .before .before .before .before .before .before .before .before .before .args .w)) (c .before .before .before .before .before .before .before .before .before .before .before .before .before .args .data-lent) (now (c .before .before .before .before .before .before .before .before .before .before .before .before .before .args .strings)) (now (c .before .before .before .before .before .before .before .before .before .before .before .before .before .args .phandles)) (c .before .before .before .before .before .before .before .before .before .before .before .before .before .args .val) t1 t2 t3 _ (c .before .before .before .before .property .ensures) _ (c .before .before .offset .given .1) (omega (arith, c .if4 .left, c .before .before .before .before .before .before .before .before .if2 .left))
 
 pub phandle-spec : {M : Type 1} → statement M
 phandle-spec = tie.close (tie.spec impossible-requires returns returns-2 noted-requires returns-3 slice-aggregate-property property-requires enum-known-e enum-known-offset returns-4 returns-5 returns-6)
