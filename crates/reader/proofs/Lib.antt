@@ -4,3 +4,5 @@ pub mod Steps
 pub mod Walks
 pub mod Unique
 pub mod Rows
+pub mod Joined
+pub mod Twins

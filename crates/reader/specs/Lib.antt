@@ -2,3 +2,4 @@
 pub mod Answers
 pub mod Header
 pub mod Shape
+pub mod Whole

@@ -1,7 +1,22 @@
 // Reads a devicetree blob: judges its header, its shape, its names and its phandles, and leaves a table of its nodes in the
 // work space that the caller lends. Nothing is copied, and nothing but that work space is written.
 mod header;
+mod pairs;
 mod shape;
+
+use header::Head;
+use header::Parts;
+use rules::WORK_WORDS;
+ghost use mathlib.Core.Path.{_≡_};
+ghost use mathlib.Core.List.{[]};
+ghost use Prim.Native.Nat.{_≤_};
+ghost use lib.ListN.{length};
+ghost use Rattle.rules.specs.Ceilings.{workWords};
+ghost use Rattle.rules.specs.Blob.{blockIn};
+ghost use Rattle.rules.specs.Reader.{read, readWork, spaceOf};
+ghost use Rattle.reader.specs.Answers.{meaning};
+ghost use Rattle.reader.specs.Header.{Found};
+ghost use Rattle.reader.specs.Whole.{Judged};
 
 // Why a blob is refused, in the order in which it is judged. `at` is the blob offset of the first offending token.
 pub enum Refusal {
@@ -37,4 +52,54 @@ pub enum Refusal {
 pub enum Answer {
     Nodes(usize),
     Refused(Refusal),
+}
+
+// Judges the blocks of a blob whose header passes. Each is handed on as its own part, so that nothing else can be read through
+// it. The work space is zero before; after a refusal what it holds is of no use.
+fn blocks(blob: &[u8], parts: Parts, work: &mut [u32]) -> Answer
+    requires { ⌜ Found (now blob) parts ⌝ }
+    requires { ⌜ workWords ≤ length (now work) ⌝ }
+    requires { ⌜ now work ≡ spaceOf [] (now work) ⌝ }
+    ensures { λ r. ⌜ Judged (blockIn (now (blob .entry))) (now (work .entry)) (now (work .exit)) r ⌝ }
+{
+    let place = parts.structure;
+    let end = place + parts.structure_size;
+    let from = parts.strings;
+    let to = from + parts.strings_size;
+    let structure = &blob[place..end];
+    let strings = &blob[from..to];
+    let shaped = shape::judge(structure, strings, place, work);
+    let Answer::Nodes(count) = shaped else {
+        return shaped;
+    };
+    pairs::judge(structure, strings, place, count, work)
+}
+
+// Reads the blob that begins with the bytes lent, and leaves a table of its nodes in the work space, four words a node in blob
+// order: the offset of its BEGIN, its parent's number (the root's is 0), 1 or 0 for a phandle, the phandle or 0. The other words of
+// the first 16,384 are zero, and all of them after a refusal; later words stay. Nothing is asked of the caller.
+//
+// Answers
+//   Nodes, how many nodes there are;
+//   Refused(NoSpace), where fewer than 16,384 words are lent: then none is touched;
+//   Refused, with the first of refusals 1 to 12.
+pub fn read(blob: &[u8], work: &mut [u32]) -> Answer
+    ensures { λ r. ⌜ meaning r ≡ read (now (blob .entry)) (length (now (work .entry))) ⌝ }
+    ensures { λ _. ⌜ now (work .exit) ≡ readWork (now (blob .entry)) (now (work .entry)) ⌝ }
+{
+    if work.len() < WORK_WORDS {
+        return Answer::Refused(Refusal::NoSpace);
+    }
+    octets::clear(work, WORK_WORDS);
+    match header::judge(blob) {
+        Head::Bad(refusal) => Answer::Refused(refusal),
+        Head::Good(parts) => {
+            let answer = blocks(blob, parts, work);
+            let Answer::Nodes(count) = answer else {
+                octets::clear(work, WORK_WORDS);
+                return answer;
+            };
+            Answer::Nodes(count)
+        }
+    }
 }

@@ -1,0 +1,240 @@
+-- The parts of the reader joined: what the header, the walk and the passes promise gives what `read` promises.
+use mathlib.Core.Path.{_≡_, refl, sym, ap, _∙_, subst}
+use mathlib.Core.Bool.{true, false}
+use mathlib.Core.List.{List, [], _∷_}
+use Prim.Native.Nat.{ℕ, _+_, _-_, _*_, _≤_, _<_}
+use native.Mathlib.Omega.{arith}
+use lib.Dec.{ltb}
+use lib.ListN.{length, take, drop, length-take}
+use borrow.Author.Tests.{lt-ltb, le-ltb}
+use Rattle.rules.specs.Ceilings.{workWords, nodeCeiling, blobCeiling}
+use Rattle.rules.specs.Octets.{Bytes, zeros, lay}
+use Rattle.rules.specs.Outcome.{Outcome, Verdict, gives, refuses, passes, _then_}
+use Rattle.rules.specs.Blob.{headerIn, headerJudged, Block, blockIn}
+use Rattle.rules.specs.Events.{shapeJudged, eventsIn}
+use Rattle.rules.specs.Tree.{Tree, nodesOf, doubledJudged, wordsJudged, sharedJudged}
+use Rattle.rules.specs.Reader.{treeRead, eventsRead, blobJudged, spaceJudged, read, rowsOf, spaceOf, tableOf, readWork}
+use Rattle.rules.specs.Laws.Verdicts.{then-passes, passes-then}
+use Rattle.rules.specs.Laws.Blob.{Inside, header-inside}
+use Rattle.rules.specs.Laws.Reader.{startsOf, starts-length, table-fits, space-length, space-space, space-clear}
+use Rattle.rules.specs.Laws.Table.{rows-length, nodes-few, read-table}
+use Rattle.reader.specs.declared.Refusal.{Refusal}
+use Rattle.reader.specs.declared.Refusal.the-variants.{NoSpace, Short, Magic, Total, Version, Layout, Shape, Name, Deep, Many, Doubled, Cells, Shared}
+use Rattle.reader.specs.declared.Answer.{Answer}
+use Rattle.reader.specs.declared.Answer.the-variants.{Nodes, Refused}
+use Rattle.reader.specs.declared.header.Parts.{Parts}
+use Rattle.reader.specs.Answers.{refused, meaning}
+use Rattle.reader.specs.Header.{Found}
+use Rattle.reader.specs.Shape.{blockOf, Leaves, Shaped}
+use Rattle.reader.specs.Whole.{nodesIn, Tabled, Paired, Judged}
+use Rattle.reader.proofs.Steps.{refused-then}
+
+-- ---- refusals
+
+-- a refusal is one of any judgement
+abbrev over : {A B : Type 0} → B → Outcome A → Outcome B
+over b (gives a) = gives b
+over b (refuses number place) = refuses number place
+
+refused-over : (A : Type 0) {B : Type 0} (b : B) (f : Refusal) → over b (refused {A = A} f) ≡ refused f
+refused-over A b NoSpace = refl
+refused-over A b Short = refl
+refused-over A b Magic = refl
+refused-over A b Total = refl
+refused-over A b Version = refl
+refused-over A b Layout = refl
+refused-over A b (Shape at) = refl
+refused-over A b (Name at) = refl
+refused-over A b (Deep at) = refl
+refused-over A b (Many at) = refl
+refused-over A b (Doubled at) = refl
+refused-over A b (Cells at) = refl
+refused-over A b (Shared at) = refl
+
+refused-gives : {X A : Type 0} (a : A) (f : Refusal) → refused f ≡ gives a → X
+refused-gives a NoSpace e = let z : _≡_ {A = ℕ} 0 1 = cc in absurd (omega arith)
+refused-gives a Short e = let z : _≡_ {A = ℕ} 0 1 = cc in absurd (omega arith)
+refused-gives a Magic e = let z : _≡_ {A = ℕ} 0 1 = cc in absurd (omega arith)
+refused-gives a Total e = let z : _≡_ {A = ℕ} 0 1 = cc in absurd (omega arith)
+refused-gives a Version e = let z : _≡_ {A = ℕ} 0 1 = cc in absurd (omega arith)
+refused-gives a Layout e = let z : _≡_ {A = ℕ} 0 1 = cc in absurd (omega arith)
+refused-gives a (Shape at) e = let z : _≡_ {A = ℕ} 0 1 = cc in absurd (omega arith)
+refused-gives a (Name at) e = let z : _≡_ {A = ℕ} 0 1 = cc in absurd (omega arith)
+refused-gives a (Deep at) e = let z : _≡_ {A = ℕ} 0 1 = cc in absurd (omega arith)
+refused-gives a (Many at) e = let z : _≡_ {A = ℕ} 0 1 = cc in absurd (omega arith)
+refused-gives a (Doubled at) e = let z : _≡_ {A = ℕ} 0 1 = cc in absurd (omega arith)
+refused-gives a (Cells at) e = let z : _≡_ {A = ℕ} 0 1 = cc in absurd (omega arith)
+refused-gives a (Shared at) e = let z : _≡_ {A = ℕ} 0 1 = cc in absurd (omega arith)
+
+then-refused : {A : Type 0} (f : Refusal) (v : Verdict) (a : A) → refused f ≡ (v then gives a) → v ≡ refused f
+then-refused f (gives u) a e = refused-gives a f e
+then-refused {A = A} f (refuses number place) a e = sym (ap (over tt) e) ∙ refused-over A tt f
+
+no-table : (f : Refusal) (t : Tree) → tableOf (refused f) t ≡ []
+no-table NoSpace t = refl
+no-table Short t = refl
+no-table Magic t = refl
+no-table Total t = refl
+no-table Version t = refl
+no-table Layout t = refl
+no-table (Shape at) t = refl
+no-table (Name at) t = refl
+no-table (Deep at) t = refl
+no-table (Many at) t = refl
+no-table (Doubled at) t = refl
+no-table (Cells at) t = refl
+no-table (Shared at) t = refl
+
+then-assoc : {A : Type 0} (v o : Verdict) (x : Outcome A) → ((v then o) then x) ≡ (v then (o then x))
+then-assoc (gives u) o x = refl
+then-assoc (refuses number place) o x = refl
+
+-- ---- the blocks of a header that passes
+
+module _ (b : Bytes) (p : Parts) (h : Found b p) where
+  in-blob : Inside b
+  in-blob = header-inside b (h .judged)
+
+  pub structure-end : p .structure + p .«structure_size» ≤ length b
+  structure-end = omega (arith, in-blob .total, in-blob .apart, in-blob .last, h .structure, h .structureSize)
+
+  pub strings-end : p .strings + p .«strings_size» ≤ length b
+  strings-end = omega (arith, in-blob .total, in-blob .last, h .strings, h .stringsSize)
+
+  pub in-ceiling : p .structure + p .«structure_size» ≤ blobCeiling
+  in-ceiling = omega (arith, in-blob .small, in-blob .apart, in-blob .last, h .structure, h .structureSize)
+
+  pub block-is : blockOf (p .structure) (take (p .structure + p .«structure_size» - p .structure) (drop (p .structure) b)) (take (p .strings + p .«strings_size» - p .strings) (drop (p .strings) b)) ≡ blockIn b
+  unfolding blockIn
+  block-is =
+      let e₁ : p .structure + p .«structure_size» - p .structure ≡ headerIn b .structureSize = omega (arith, h .structureSize) in
+      let e₂ : p .strings + p .«strings_size» - p .strings ≡ headerIn b .stringsSize = omega (arith, h .stringsSize) in
+      rw (e₁, e₂, h .structure, h .strings)
+
+  pub part-short : p .structure + length (take (p .structure + p .«structure_size» - p .structure) (drop (p .structure) b)) ≤ blobCeiling
+  part-short = omega (arith, in-ceiling, length-take (p .structure + p .«structure_size» - p .structure) (drop (p .structure) b))
+
+-- ---- the walk, and then the pairs
+
+module _ (block : Block) (old new : List ℕ) (answer : Answer) (count : ℕ) (s : Shaped (block .place) (block .structure) (block .strings) old new answer) (e : answer ≡ Nodes count) (room : workWords ≤ length old) where
+  passed : (shapeJudged block ≡ passes) × (gives (length (nodesIn block)) ≡ gives count)
+  passed = then-passes (shapeJudged block) (gives (length (nodesIn block))) count (sym (s .judged) ∙ ap meaning e)
+
+  few-starts : length (startsOf (nodesIn block)) ≤ workWords
+  few-starts = omega (arith, starts-length (nodesIn block), nodes-few block (passed .0), table-fits)
+
+  few-rows : length (rowsOf (nodesIn block)) ≤ workWords
+  few-rows = omega (arith, rows-length (nodesIn block), nodes-few block (passed .0), table-fits)
+
+  walked : new ≡ spaceOf (startsOf (nodesIn block)) old
+  walked = subst (λ (a : Answer). Leaves a (startsOf (nodesIn block)) old new) e (s .table)
+
+  pub tabled : Tabled block new count
+  tabled = record {
+    shape = passed .0;
+    counted = (cc (passed .1));
+    room = omega (arith, ap length walked, space-length (startsOf (nodesIn block)) old few-starts room);
+    table = walked ∙ sym (ap (spaceOf (startsOf (nodesIn block))) walked ∙ space-space (startsOf (nodesIn block)) (startsOf (nodesIn block)) old few-starts few-starts);
+  }
+
+  leaves-on : (a : Answer) (last : List ℕ) → Leaves a (rowsOf (nodesIn block)) new last → Leaves a (rowsOf (nodesIn block)) old last
+  leaves-on (Nodes n) last l = l ∙ ap (spaceOf (rowsOf (nodesIn block))) walked ∙ space-space (rowsOf (nodesIn block)) (startsOf (nodesIn block)) old few-rows few-starts
+  leaves-on (Refused f) last l = l ∙ ap (spaceOf []) walked ∙ space-space [] (startsOf (nodesIn block)) old (omega arith) few-starts
+
+  pub paired : (a : Answer) (last : List ℕ) → Paired block new last a → Judged block old last a
+  paired a last q = record {
+    judged = q .judged ∙ sym (passes-then (shapeJudged block) (doubledJudged (nodesIn block) then wordsJudged (nodesIn block) then sharedJudged (nodesIn block) then gives (length (nodesIn block))) (passed .0));
+    table = leaves-on a last (q .table);
+  }
+
+-- the walk refuses
+pub shape-refused : (block : Block) (old new : List ℕ) (answer : Answer) (f : Refusal) → answer ≡ Refused f
+    → Shaped (block .place) (block .structure) (block .strings) old new answer → Judged block old new answer
+shape-refused block old new answer f e s =
+    let v : shapeJudged block ≡ refused f = then-refused f (shapeJudged block) (length (nodesIn block)) (ap meaning (sym e) ∙ s .judged) in
+    subst (Judged block old new) (sym e)
+    (record {
+      judged =
+          sym
+          (ap (λ (o : Verdict). o then doubledJudged (nodesIn block) then wordsJudged (nodesIn block) then sharedJudged (nodesIn block) then gives (length (nodesIn block))) v
+          ∙ refused-then f (doubledJudged (nodesIn block) then wordsJudged (nodesIn block) then sharedJudged (nodesIn block) then gives (length (nodesIn block))));
+      table = subst (λ (a : Answer). Leaves a (startsOf (nodesIn block)) old new) e (s .table);
+    })
+
+-- ---- the whole
+
+pub no-space : (b : Bytes) (work : List ℕ) → length work < workWords → (_≡_ {A = Outcome ℕ} (refuses 40 0) (read b (length work))) × (work ≡ readWork b work)
+unfolding read spaceJudged readWork
+no-space b work h = (rw (lt-ltb (length work) workWords h), rw (lt-ltb (length work) workWords h))
+
+-- what is read, and left, where there is space
+read-is : (b : Bytes) (words : ℕ) → workWords ≤ words → read b words ≡ (blobJudged b then gives (length (treeRead b)))
+unfolding read spaceJudged
+read-is b words h = rw (le-ltb words workWords h)
+
+work-is : (b : Bytes) (work : List ℕ) → workWords ≤ length work → readWork b work ≡ spaceOf (tableOf (blobJudged b) (treeRead b)) work
+unfolding readWork
+work-is b work h = rw (le-ltb (length work) workWords h)
+
+module _ (b : Bytes) (work cleared : List ℕ) (room : workWords ≤ length work) (clear : cleared ≡ lay work 0 (zeros workWords)) where
+  is-clear : cleared ≡ spaceOf [] work
+  is-clear = clear ∙ space-clear work room
+
+  pub clear-long : workWords ≤ length cleared
+  clear-long = omega (arith, ap length is-clear, space-length [] work (omega arith) room)
+
+  pub clear-again : cleared ≡ spaceOf [] cleared
+  clear-again = is-clear ∙ sym (ap (spaceOf []) is-clear ∙ space-space [] [] work (omega arith) (omega arith))
+
+  -- the header refuses
+  pub head-refused : (f : Refusal) → headerJudged b ≡ refused f → (refused f ≡ read b (length work)) × (cleared ≡ readWork b work)
+  unfolding blobJudged
+  head-refused f e =
+      let v : blobJudged b ≡ refused f =
+      ap (λ (o : Verdict). o then shapeJudged (blockIn b) then doubledJudged (treeRead b) then wordsJudged (treeRead b) then sharedJudged (treeRead b)) e
+      ∙ refused-then f (shapeJudged (blockIn b) then doubledJudged (treeRead b) then wordsJudged (treeRead b) then sharedJudged (treeRead b)) in (
+        sym (read-is b (length work) room ∙ ap (λ (o : Verdict). o then gives (length (treeRead b))) v ∙ refused-then f (gives (length (treeRead b)))),
+        is-clear ∙ sym (work-is b work room ∙ ap (λ (o : Verdict). spaceOf (tableOf o (treeRead b)) work) v ∙ ap (λ (ws : List ℕ). spaceOf ws work) (no-table f (treeRead b))),
+      )
+
+  module _ (new : List ℕ) (answer : Answer) (head : headerJudged b ≡ passes) (j : Judged (blockIn b) cleared new answer) where
+    tests : Verdict
+    tests = shapeJudged (blockIn b) then doubledJudged (treeRead b) then wordsJudged (treeRead b) then sharedJudged (treeRead b)
+
+    judged-is : blobJudged b ≡ tests
+    unfolding blobJudged tests
+    judged-is = ap (λ (o : Verdict). o then tests) head
+
+    joined : meaning answer ≡ (tests then gives (length (treeRead b)))
+    unfolding tests treeRead eventsRead
+    joined =
+        j .judged
+        ∙ sym
+        (then-assoc (shapeJudged (blockIn b)) (doubledJudged (treeRead b) then wordsJudged (treeRead b) then sharedJudged (treeRead b)) (gives (length (treeRead b)))
+        ∙ ap (λ (o : Outcome ℕ). shapeJudged (blockIn b) then o)
+        (then-assoc (doubledJudged (treeRead b)) (wordsJudged (treeRead b) then sharedJudged (treeRead b)) (gives (length (treeRead b)))
+        ∙ ap (λ (o : Outcome ℕ). doubledJudged (treeRead b) then o) (then-assoc (wordsJudged (treeRead b)) (sharedJudged (treeRead b)) (gives (length (treeRead b))))))
+
+    pub read-answer : meaning answer ≡ read b (length work)
+    read-answer = joined ∙ sym (read-is b (length work) room ∙ ap (λ (o : Verdict). o then gives (length (treeRead b))) judged-is)
+
+    pub read-refused : (f : Refusal) (last : List ℕ) → answer ≡ Refused f → last ≡ lay new 0 (zeros workWords) → workWords ≤ length new → last ≡ readWork b work
+    read-refused f last e l long =
+        let v : blobJudged b ≡ refused f = judged-is ∙ then-refused f tests (length (treeRead b)) (ap meaning (sym e) ∙ joined) in
+        l
+        ∙ space-clear new long
+        ∙ subst (λ (a : Answer). Leaves a (rowsOf (nodesIn (blockIn b))) cleared new) e (j .table)
+        ∙ sym clear-again
+        ∙ is-clear
+        ∙ sym (work-is b work room ∙ ap (λ (o : Verdict). spaceOf (tableOf o (treeRead b)) work) v ∙ ap (λ (ws : List ℕ). spaceOf ws work) (no-table f (treeRead b)))
+
+    pub read-nodes : (count : ℕ) → answer ≡ Nodes count → new ≡ readWork b work
+    unfolding treeRead eventsRead
+    read-nodes count e =
+        let p = then-passes tests (gives (length (treeRead b))) count (sym joined ∙ ap meaning e) in
+        let v : blobJudged b ≡ passes = judged-is ∙ p .0 in
+        let few : length (rowsOf (treeRead b)) ≤ workWords = omega (arith, rows-length (treeRead b), read-table b v .few, table-fits) in
+        subst (λ (a : Answer). Leaves a (rowsOf (nodesIn (blockIn b))) cleared new) e (j .table)
+        ∙ ap (spaceOf (rowsOf (treeRead b))) is-clear
+        ∙ space-space (rowsOf (treeRead b)) [] work few (omega arith)
+        ∙ sym (work-is b work room ∙ ap (λ (o : Verdict). spaceOf (tableOf o (treeRead b)) work) v)

@@ -1,0 +1,36 @@
+-- What the parts of the reader promise of the whole blob, and of the table in the work space.
+use mathlib.Core.Path.{_≡_}
+use mathlib.Core.List.{List}
+use Prim.Native.Nat.{ℕ, _≤_}
+use lib.ListN.{length}
+use Rattle.rules.specs.Ceilings.{workWords}
+use Rattle.rules.specs.Outcome.{gives, passes, _then_}
+use Rattle.rules.specs.Blob.{Block}
+use Rattle.rules.specs.Events.{shapeJudged, eventsIn}
+use Rattle.rules.specs.Tree.{Tree, nodesOf, doubledJudged, wordsJudged, sharedJudged}
+use Rattle.rules.specs.Reader.{rowsOf, spaceOf}
+use Rattle.rules.specs.Laws.Reader.{startsOf}
+use Rattle.reader.specs.declared.Answer.{Answer}
+use Rattle.reader.specs.Answers.{meaning}
+use Rattle.reader.specs.Shape.{Leaves}
+
+abbrev pub nodesIn : Block → Tree
+nodesIn b = nodesOf (eventsIn b)
+
+-- the shape has passed, and the work space holds what the walk left
+pub record Tabled (b : Block) (work : List ℕ) (count : ℕ) : Type 0 where
+  pub shape : shapeJudged b ≡ passes
+  pub counted : count ≡ length (nodesIn b)
+  pub room : workWords ≤ length work
+  pub table : work ≡ spaceOf (startsOf (nodesIn b)) work
+
+-- 10 to 12, and the table
+pub record Paired (b : Block) (old new : List ℕ) (answer : Answer) : Type 0 where
+  pub judged : meaning answer ≡ (doubledJudged (nodesIn b) then wordsJudged (nodesIn b) then sharedJudged (nodesIn b) then gives (length (nodesIn b)))
+  pub table : Leaves answer (rowsOf (nodesIn b)) old new
+
+-- 6 to 12, and the table
+pub record Judged (b : Block) (old new : List ℕ) (answer : Answer) : Type 0 where
+  pub judged : meaning answer
+      ≡ (shapeJudged b then doubledJudged (nodesIn b) then wordsJudged (nodesIn b) then sharedJudged (nodesIn b) then gives (length (nodesIn b)))
+  pub table : Leaves answer (rowsOf (nodesIn b)) old new
