@@ -18,6 +18,7 @@ use Rattle.rules.specs.Laws.Verdicts.{then-passes, passes-then}
 use Rattle.rules.specs.Laws.Blob.{Inside, header-inside}
 use Rattle.rules.specs.Laws.Reader.{startsOf, starts-length, table-fits, space-length, space-space, space-clear}
 use Rattle.rules.specs.Laws.Table.{rows-length, nodes-few, read-table}
+use Rattle.passes.specs.Passes.{blockOf}
 use Rattle.reader.specs.declared.Refusal.{Refusal}
 use Rattle.reader.specs.declared.Refusal.the-variants.{NoSpace, Short, Magic, Total, Version, Layout, Shape, Name, Deep, Many, Doubled, Cells, Shared}
 use Rattle.reader.specs.declared.Answer.{Answer}
@@ -25,8 +26,8 @@ use Rattle.reader.specs.declared.Answer.the-variants.{Nodes, Refused}
 use Rattle.reader.specs.declared.header.Parts.{Parts}
 use Rattle.reader.specs.Answers.{refused, meaning}
 use Rattle.reader.specs.Header.{Found}
-use Rattle.reader.specs.Shape.{blockOf, Leaves, Shaped}
-use Rattle.reader.specs.Whole.{nodesIn, Tabled, Paired, Judged}
+use Rattle.reader.specs.Shape.{Leaves, Shaped}
+use Rattle.reader.specs.Whole.{treeOf, Tabled, Paired, Judged}
 use Rattle.reader.proofs.Steps.{refused-then}
 
 -- ---- refusals
@@ -91,7 +92,7 @@ then-assoc (refuses number place) o x = refl
 
 -- ---- the blocks of a header that passes
 
-module _ (b : Bytes) (p : Parts) (h : Found b p) where
+module _ {b : Bytes} {p : Parts} (h : Found b p) where
   in-blob : Inside b
   in-blob = header-inside b (h .judged)
 
@@ -104,7 +105,7 @@ module _ (b : Bytes) (p : Parts) (h : Found b p) where
   pub in-ceiling : p .structure + p .«structure_size» ≤ blobCeiling
   in-ceiling = omega (arith, in-blob .small, in-blob .apart, in-blob .last, h .structure, h .structureSize)
 
-  pub block-is : blockOf (p .structure) (take (p .structure + p .«structure_size» - p .structure) (drop (p .structure) b)) (take (p .strings + p .«strings_size» - p .strings) (drop (p .strings) b)) ≡ blockIn b
+  pub block-is : blockOf (take (p .structure + p .«structure_size» - p .structure) (drop (p .structure) b)) (take (p .strings + p .«strings_size» - p .strings) (drop (p .strings) b)) (p .structure) ≡ blockIn b
   unfolding blockIn
   block-is =
       let e₁ : p .structure + p .«structure_size» - p .structure ≡ headerIn b .structureSize = omega (arith, h .structureSize) in
@@ -116,49 +117,49 @@ module _ (b : Bytes) (p : Parts) (h : Found b p) where
 
 -- ---- the walk, and then the pairs
 
-module _ (block : Block) (old new : List ℕ) (answer : Answer) (count : ℕ) (s : Shaped (block .place) (block .structure) (block .strings) old new answer) (e : answer ≡ Nodes count) (room : workWords ≤ length old) where
-  passed : (shapeJudged block ≡ passes) × (gives (length (nodesIn block)) ≡ gives count)
-  passed = then-passes (shapeJudged block) (gives (length (nodesIn block))) count (sym (s .judged) ∙ ap meaning e)
+module _ {block : Block} {old new : List ℕ} {answer : Answer} {count : ℕ} (s : Shaped block old new answer) (e : answer ≡ Nodes count) (room : workWords ≤ length old) where
+  passed : (shapeJudged block ≡ passes) × (gives (length (treeOf block)) ≡ gives count)
+  passed = then-passes (shapeJudged block) (gives (length (treeOf block))) count (sym (s .judged) ∙ ap meaning e)
 
-  few-starts : length (startsOf (nodesIn block)) ≤ workWords
-  few-starts = omega (arith, starts-length (nodesIn block), nodes-few block (passed .0), table-fits)
+  few-starts : length (startsOf (treeOf block)) ≤ workWords
+  few-starts = omega (arith, starts-length (treeOf block), nodes-few block (passed .0), table-fits)
 
-  few-rows : length (rowsOf (nodesIn block)) ≤ workWords
-  few-rows = omega (arith, rows-length (nodesIn block), nodes-few block (passed .0), table-fits)
+  few-rows : length (rowsOf (treeOf block)) ≤ workWords
+  few-rows = omega (arith, rows-length (treeOf block), nodes-few block (passed .0), table-fits)
 
-  walked : new ≡ spaceOf (startsOf (nodesIn block)) old
-  walked = subst (λ (a : Answer). Leaves a (startsOf (nodesIn block)) old new) e (s .table)
+  walked : new ≡ spaceOf (startsOf (treeOf block)) old
+  walked = subst (λ (a : Answer). Leaves a (startsOf (treeOf block)) old new) e (s .table)
 
   pub tabled : Tabled block new count
   tabled = record {
     shape = passed .0;
     counted = (cc (passed .1));
-    room = omega (arith, ap length walked, space-length (startsOf (nodesIn block)) old few-starts room);
-    table = walked ∙ sym (ap (spaceOf (startsOf (nodesIn block))) walked ∙ space-space (startsOf (nodesIn block)) (startsOf (nodesIn block)) old few-starts few-starts);
+    room = omega (arith, ap length walked, space-length (startsOf (treeOf block)) old few-starts room);
+    table = walked ∙ sym (ap (spaceOf (startsOf (treeOf block))) walked ∙ space-space (startsOf (treeOf block)) (startsOf (treeOf block)) old few-starts few-starts);
   }
 
-  leaves-on : (a : Answer) (last : List ℕ) → Leaves a (rowsOf (nodesIn block)) new last → Leaves a (rowsOf (nodesIn block)) old last
-  leaves-on (Nodes n) last l = l ∙ ap (spaceOf (rowsOf (nodesIn block))) walked ∙ space-space (rowsOf (nodesIn block)) (startsOf (nodesIn block)) old few-rows few-starts
-  leaves-on (Refused f) last l = l ∙ ap (spaceOf []) walked ∙ space-space [] (startsOf (nodesIn block)) old (omega arith) few-starts
+  leaves-on : (a : Answer) (last : List ℕ) → Leaves a (rowsOf (treeOf block)) new last → Leaves a (rowsOf (treeOf block)) old last
+  leaves-on (Nodes n) last l = l ∙ ap (spaceOf (rowsOf (treeOf block))) walked ∙ space-space (rowsOf (treeOf block)) (startsOf (treeOf block)) old few-rows few-starts
+  leaves-on (Refused f) last l = l ∙ ap (spaceOf []) walked ∙ space-space [] (startsOf (treeOf block)) old (omega arith) few-starts
 
-  pub paired : (a : Answer) (last : List ℕ) → Paired block new last a → Judged block old last a
-  paired a last q = record {
-    judged = q .judged ∙ sym (passes-then (shapeJudged block) (doubledJudged (nodesIn block) then wordsJudged (nodesIn block) then sharedJudged (nodesIn block) then gives (length (nodesIn block))) (passed .0));
+  pub paired : {a : Answer} {last : List ℕ} → Paired block new last a → Judged block old last a
+  paired {a} {last} q = record {
+    judged = q .judged ∙ sym (passes-then (shapeJudged block) (doubledJudged (treeOf block) then wordsJudged (treeOf block) then sharedJudged (treeOf block) then gives (length (treeOf block))) (passed .0));
     table = leaves-on a last (q .table);
   }
 
 -- the walk refuses
-pub shape-refused : (block : Block) (old new : List ℕ) (answer : Answer) (f : Refusal) → answer ≡ Refused f
-    → Shaped (block .place) (block .structure) (block .strings) old new answer → Judged block old new answer
-shape-refused block old new answer f e s =
-    let v : shapeJudged block ≡ refused f = then-refused f (shapeJudged block) (length (nodesIn block)) (ap meaning (sym e) ∙ s .judged) in
+pub shape-refused : {block : Block} {old new : List ℕ} {answer : Answer} {f : Refusal} → answer ≡ Refused f
+    → Shaped block old new answer → Judged block old new answer
+shape-refused {block} {old} {new} {answer} {f} e s =
+    let v : shapeJudged block ≡ refused f = then-refused f (shapeJudged block) (length (treeOf block)) (ap meaning (sym e) ∙ s .judged) in
     subst (Judged block old new) (sym e)
     (record {
       judged =
           sym
-          (ap (λ (o : Verdict). o then doubledJudged (nodesIn block) then wordsJudged (nodesIn block) then sharedJudged (nodesIn block) then gives (length (nodesIn block))) v
-          ∙ refused-then f (doubledJudged (nodesIn block) then wordsJudged (nodesIn block) then sharedJudged (nodesIn block) then gives (length (nodesIn block))));
-      table = subst (λ (a : Answer). Leaves a (startsOf (nodesIn block)) old new) e (s .table);
+          (ap (λ (o : Verdict). o then doubledJudged (treeOf block) then wordsJudged (treeOf block) then sharedJudged (treeOf block) then gives (length (treeOf block))) v
+          ∙ refused-then f (doubledJudged (treeOf block) then wordsJudged (treeOf block) then sharedJudged (treeOf block) then gives (length (treeOf block))));
+      table = subst (λ (a : Answer). Leaves a (startsOf (treeOf block)) old new) e (s .table);
     })
 
 -- ---- the whole
@@ -176,7 +177,7 @@ work-is : (b : Bytes) (work : List ℕ) → workWords ≤ length work → readWo
 unfolding readWork
 work-is b work h = rw (le-ltb (length work) workWords h)
 
-module _ (b : Bytes) (work cleared : List ℕ) (room : workWords ≤ length work) (clear : cleared ≡ lay work 0 (zeros workWords)) where
+module _ (b : Bytes) (work : List ℕ) {cleared : List ℕ} (room : workWords ≤ length work) (clear : cleared ≡ lay work 0 (zeros workWords)) where
   is-clear : cleared ≡ spaceOf [] work
   is-clear = clear ∙ space-clear work room
 
@@ -197,7 +198,7 @@ module _ (b : Bytes) (work cleared : List ℕ) (room : workWords ≤ length work
         is-clear ∙ sym (work-is b work room ∙ ap (λ (o : Verdict). spaceOf (tableOf o (treeRead b)) work) v ∙ ap (λ (ws : List ℕ). spaceOf ws work) (no-table f (treeRead b))),
       )
 
-  module _ (new : List ℕ) (answer : Answer) (head : headerJudged b ≡ passes) (j : Judged (blockIn b) cleared new answer) where
+  module _ {new : List ℕ} {answer : Answer} (head : headerJudged b ≡ passes) (j : Judged (blockIn b) cleared new answer) where
     tests : Verdict
     tests = shapeJudged (blockIn b) then doubledJudged (treeRead b) then wordsJudged (treeRead b) then sharedJudged (treeRead b)
 
@@ -218,23 +219,23 @@ module _ (b : Bytes) (work cleared : List ℕ) (room : workWords ≤ length work
     pub read-answer : meaning answer ≡ read b (length work)
     read-answer = joined ∙ sym (read-is b (length work) room ∙ ap (λ (o : Verdict). o then gives (length (treeRead b))) judged-is)
 
-    pub read-refused : (f : Refusal) (last : List ℕ) → answer ≡ Refused f → last ≡ lay new 0 (zeros workWords) → workWords ≤ length new → last ≡ readWork b work
-    read-refused f last e l long =
+    pub read-refused : {f : Refusal} {last : List ℕ} → answer ≡ Refused f → last ≡ lay new 0 (zeros workWords) → workWords ≤ length new → last ≡ readWork b work
+    read-refused {f} {last} e l long =
         let v : blobJudged b ≡ refused f = judged-is ∙ then-refused f tests (length (treeRead b)) (ap meaning (sym e) ∙ joined) in
         l
         ∙ space-clear new long
-        ∙ subst (λ (a : Answer). Leaves a (rowsOf (nodesIn (blockIn b))) cleared new) e (j .table)
+        ∙ subst (λ (a : Answer). Leaves a (rowsOf (treeOf (blockIn b))) cleared new) e (j .table)
         ∙ sym clear-again
         ∙ is-clear
         ∙ sym (work-is b work room ∙ ap (λ (o : Verdict). spaceOf (tableOf o (treeRead b)) work) v ∙ ap (λ (ws : List ℕ). spaceOf ws work) (no-table f (treeRead b)))
 
-    pub read-nodes : (count : ℕ) → answer ≡ Nodes count → new ≡ readWork b work
+    pub read-nodes : {count : ℕ} → answer ≡ Nodes count → new ≡ readWork b work
     unfolding treeRead eventsRead
-    read-nodes count e =
+    read-nodes {count} e =
         let p = then-passes tests (gives (length (treeRead b))) count (sym joined ∙ ap meaning e) in
         let v : blobJudged b ≡ passes = judged-is ∙ p .0 in
         let few : length (rowsOf (treeRead b)) ≤ workWords = omega (arith, rows-length (treeRead b), read-table b v .few, table-fits) in
-        subst (λ (a : Answer). Leaves a (rowsOf (nodesIn (blockIn b))) cleared new) e (j .table)
+        subst (λ (a : Answer). Leaves a (rowsOf (treeOf (blockIn b))) cleared new) e (j .table)
         ∙ ap (spaceOf (rowsOf (treeRead b))) is-clear
         ∙ space-space (rowsOf (treeRead b)) [] work few (omega arith)
         ∙ sym (work-is b work room ∙ ap (λ (o : Verdict). spaceOf (tableOf o (treeRead b)) work) v)

@@ -19,7 +19,7 @@ use Rattle.passes.specs.Siblings.{Table}
 use Rattle.passes.specs.Rows.{rowsFrom}
 use Rattle.reader.specs.declared.Refusal.the-variants.{Doubled, Cells, Shared}
 use Rattle.reader.specs.declared.Answer.the-variants.{Nodes, Refused}
-use Rattle.reader.specs.Whole.{nodesIn, Tabled, Paired}
+use Rattle.reader.specs.Whole.{treeOf, Tabled, Paired}
 use Rattle.reader.proofs.Rows.{Rest, shared-table}
 
 -- ---- the table, word by word
@@ -34,60 +34,60 @@ start-word (n ∷ ns) (suc i) k h l =
     let e : 4 * suc i + k ≡ 4 + (4 * i + k) = omega arith in
     rw e (getD-append-add (startOf (n .place) (n .parent)) (startsOf ns) (4 * i + k) 0 ∙ start-word ns i k (omega arith) l)
 
-module _ (b : Block) (work : List ℕ) (count : ℕ) (t : Tabled b work count) where
-  few : length (nodesIn b) ≤ nodeCeiling
+module _ {b : Block} {work : List ℕ} {count : ℕ} (t : Tabled b work count) where
+  few : length (treeOf b) ≤ nodeCeiling
   few = nodes-few b (t .shape)
 
-  short : length (startsOf (nodesIn b)) ≤ workWords
-  short = omega (arith, starts-length (nodesIn b), few, table-fits)
+  short : length (startsOf (treeOf b)) ≤ workWords
+  short = omega (arith, starts-length (treeOf b), few, table-fits)
 
-  word : (k : ℕ) → k < workWords → getD work k 0 ≡ getD (startsOf (nodesIn b)) k 0
-  word k h = ap (λ (w : List ℕ). getD w k 0) (t .table) ∙ space-get (startsOf (nodesIn b)) work k h short
+  word : (k : ℕ) → k < workWords → getD work k 0 ≡ getD (startsOf (treeOf b)) k 0
+  word k h = ap (λ (w : List ℕ). getD w k 0) (t .table) ∙ space-get (startsOf (treeOf b)) work k h short
 
-  pub tables : Table work (nodesIn b)
+  pub tables : Table work (treeOf b)
   unfolding nodeWords
   tables = record {
     room = t .room;
     few = few;
     begin = λ i h.
         let e : 4 * i ≡ 4 * i + 0 = omega arith in
-        word (4 * i) (omega (arith, few, table-fits)) ∙ ap (λ (k : ℕ). getD (startsOf (nodesIn b)) k 0) e ∙ start-word (nodesIn b) i 0 h (omega arith);
-    parent = λ i h. word (4 * i + 1) (omega (arith, few, table-fits)) ∙ start-word (nodesIn b) i 1 h (omega arith);
-    clear = λ i h k. word i k ∙ List·getD-eq-default (startsOf (nodesIn b)) 0 (omega (arith, starts-length (nodesIn b), few));
+        word (4 * i) (omega (arith, few, table-fits)) ∙ ap (λ (k : ℕ). getD (startsOf (treeOf b)) k 0) e ∙ start-word (treeOf b) i 0 h (omega arith);
+    parent = λ i h. word (4 * i + 1) (omega (arith, few, table-fits)) ∙ start-word (treeOf b) i 1 h (omega arith);
+    clear = λ i h k. word i k ∙ List·getD-eq-default (startsOf (treeOf b)) 0 (omega (arith, starts-length (treeOf b), few));
   }
 
   -- ---- the first that refuses, or none
 
-  module _ (f : Found) (doubled : verdict 10 (b .place) f ≡ doubledJudged (nodesIn b)) where
-    pub is-doubled : (at : ℕ) → f ≡ At at → Paired b work work (Refused (Doubled (b .place + at)))
-    is-doubled at e =
-        let v : doubledJudged (nodesIn b) ≡ refuses 10 (b .place + at) = sym doubled ∙ ap (verdict 10 (b .place)) e in
+  module _ {f : Found} (doubled : verdict 10 (b .place) f ≡ doubledJudged (treeOf b)) where
+    pub is-doubled : {at : ℕ} → f ≡ At at → Paired b work work (Refused (Doubled (b .place + at)))
+    is-doubled {at} e =
+        let v : doubledJudged (treeOf b) ≡ refuses 10 (b .place + at) = sym doubled ∙ ap (verdict 10 (b .place)) e in
         record { judged = rw v; table = refl }
 
-    module _ (none₁ : f ≡ Nothing) (g : Found) (words : verdict 11 (b .place) g ≡ wordsJudged (nodesIn b)) where
-      v₁ : doubledJudged (nodesIn b) ≡ passes
+    module _ (none₁ : f ≡ Nothing) (g : Found) (words : verdict 11 (b .place) g ≡ wordsJudged (treeOf b)) where
+      v₁ : doubledJudged (treeOf b) ≡ passes
       v₁ = sym doubled ∙ ap (verdict 10 (b .place)) none₁
 
-      pub is-cells : (at : ℕ) → g ≡ At at → Paired b work work (Refused (Cells (b .place + at)))
-      is-cells at e =
-          let v : wordsJudged (nodesIn b) ≡ refuses 11 (b .place + at) = sym words ∙ ap (verdict 11 (b .place)) e in
+      pub is-cells : {at : ℕ} → g ≡ At at → Paired b work work (Refused (Cells (b .place + at)))
+      is-cells {at} e =
+          let v : wordsJudged (treeOf b) ≡ refuses 11 (b .place + at) = sym words ∙ ap (verdict 11 (b .place)) e in
           record { judged = rw (v₁, v); table = refl }
 
-      module _ (none₂ : g ≡ Nothing) (h : Found) (new : List ℕ) (rows : (verdict 12 (b .place) h, new) ≡ rowsFrom work 0 (nodesIn b)) where
-        v₂ : wordsJudged (nodesIn b) ≡ passes
+      module _ (none₂ : g ≡ Nothing) (h : Found) {new : List ℕ} (rows : (verdict 12 (b .place) h, new) ≡ rowsFrom work 0 (treeOf b)) where
+        v₂ : wordsJudged (treeOf b) ≡ passes
         v₂ = sym words ∙ ap (verdict 11 (b .place)) none₂
 
-        shared : (verdict 12 (b .place) h ≡ sharedJudged (nodesIn b)) × Rest work (rowsOf (nodesIn b)) (verdict 12 (b .place) h) new
+        shared : (verdict 12 (b .place) h ≡ sharedJudged (treeOf b)) × Rest work (rowsOf (treeOf b)) (verdict 12 (b .place) h) new
         shared =
-            let s = shared-table work (t .room) (nodesIn b) work (omega (arith, few, table-fits)) (t .table) in
-            subst (λ (p : Verdict × List ℕ). (p .0 ≡ sharedJudged (nodesIn b)) × Rest work (rowsOf (nodesIn b)) (p .0) (p .1)) (sym rows) s
+            let s = shared-table work (t .room) (treeOf b) work (omega (arith, few, table-fits)) (t .table) in
+            subst (λ (p : Verdict × List ℕ). (p .0 ≡ sharedJudged (treeOf b)) × Rest work (rowsOf (treeOf b)) (p .0) (p .1)) (sym rows) s
 
-        pub is-shared : (at : ℕ) → h ≡ At at → Paired b work new (Refused (Shared (b .place + at)))
-        is-shared at e =
-            let v : sharedJudged (nodesIn b) ≡ refuses 12 (b .place + at) = sym (shared .0) ∙ ap (verdict 12 (b .place)) e in
-            record { judged = rw (v₁, v₂, v); table = subst (λ (x : Found). Rest work (rowsOf (nodesIn b)) (verdict 12 (b .place) x) new) e (shared .1) }
+        pub is-shared : {at : ℕ} → h ≡ At at → Paired b work new (Refused (Shared (b .place + at)))
+        is-shared {at} e =
+            let v : sharedJudged (treeOf b) ≡ refuses 12 (b .place + at) = sym (shared .0) ∙ ap (verdict 12 (b .place)) e in
+            record { judged = rw (v₁, v₂, v); table = subst (λ (x : Found). Rest work (rowsOf (treeOf b)) (verdict 12 (b .place) x) new) e (shared .1) }
 
         pub is-none : h ≡ Nothing → Paired b work new (Nodes count)
         is-none e =
-            let v : sharedJudged (nodesIn b) ≡ passes = sym (shared .0) ∙ ap (verdict 12 (b .place)) e in
-            record { judged = rw (v₁, v₂, v, t .counted); table = subst (λ (x : Found). Rest work (rowsOf (nodesIn b)) (verdict 12 (b .place) x) new) e (shared .1) }
+            let v : sharedJudged (treeOf b) ≡ passes = sym (shared .0) ∙ ap (verdict 12 (b .place)) e in
+            record { judged = rw (v₁, v₂, v, t .counted); table = subst (λ (x : Found). Rest work (rowsOf (treeOf b)) (verdict 12 (b .place) x) new) e (shared .1) }

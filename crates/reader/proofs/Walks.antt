@@ -28,6 +28,7 @@ use Rattle.rules.specs.declared.Token.{Token}
 use Rattle.rules.specs.declared.Token.the-variants.{Item, End, Cut}
 use Rattle.rules.specs.declared.Kind.{Kind}
 use Rattle.rules.specs.declared.Kind.the-variants.{Begin, EndNode, Prop, Nop}
+use Rattle.passes.specs.Passes.{blockOf}
 use Rattle.reader.specs.declared.Refusal.{Refusal}
 use Rattle.reader.specs.declared.Answer.{Answer}
 use Rattle.reader.specs.declared.Answer.the-variants.{Nodes, Refused}
@@ -104,7 +105,7 @@ starts b d e = record {
 
 -- what an item does depends neither on the block's place nor on the next token's
 same-item : (b : Block) (place : ℕ) (v : events.Walk) (at : ℕ) (kind : Kind) (next : ℕ)
-    → onToken (record { place = place; structure = b .structure; strings = b .strings }) v at (Item kind 0) ≡ onToken b v at (Item kind next)
+    → onToken (blockOf (b .structure) (b .strings) place) v at (Item kind 0) ≡ onToken b v at (Item kind next)
 same-item b place v at (Begin len) next = refl
 same-item b place v at EndNode next = refl
 same-item b place v at (Prop len name value) next = refl
@@ -139,7 +140,7 @@ leaves (Refused refusal) words d work l e = ap (spaceOf []) e ∙ space-space []
 
 -- ---- the turns
 
-module _ (b : Block) (d work : List ℕ) (at : ℕ) (w : Walk) (i : Inv b d work at w) where
+module _ {b : Block} {d work : List ℕ} {at : ℕ} {w : Walk} (i : Inv b d work at w) where
   abbrev v : events.Walk
   v = walked w (i .stack)
 
@@ -155,7 +156,7 @@ module _ (b : Block) (d work : List ℕ) (at : ℕ) (w : Walk) (i : Inv b d work
   pub node-small : w .node ≤ w .count
   node-small = omega (arith, i .node, top-small (i .words) (w .count) (i .stack) (i .climbs))
 
-  module _ (token : Token) (kind : Kind) (next : ℕ) (turn : Turn) (is : token ≡ tokenAt (b .structure) at) (case : token ≡ Item kind next)
+  module _ {token : Token} {kind : Kind} {next : ℕ} {turn : Turn} (is : token ≡ tokenAt (b .structure) at) (case : token ≡ Item kind next)
       (does : DoesItem w (b .place + at) (b .structure) (b .strings) at kind turn) where
     pub ahead : (at + 4 ≤ next) × (next ≤ length (b .structure))
     ahead = item-ahead (b .structure) at token kind next is case
@@ -170,8 +171,8 @@ module _ (b : Block) (d work : List ℕ) (at : ℕ) (w : Walk) (i : Inv b d work
     events-on : eventsAt b at ≡ saying b at (Item kind next) (eventsAt b next)
     events-on = events-item b at (i .inside) kind next (sym is ∙ case)
 
-    pub at-stop : (f : Refusal) → turn ≡ Stops f → Shaped (b .place) (b .structure) (b .strings) d work (Refused f)
-    at-stop f e = record {
+    pub at-stop : {f : Refusal} → turn ≡ Stops f → Shaped b d work (Refused f)
+    at-stop {f = f} e = record {
       judged = sym (ap (λ (o : Verdict). o then gives (length (nodesOf (eventsIn b)))) (sym turned ∙ ap (follows (λ (u : events.Walk). judgedAt b u next) v) e) ∙ refused-then f _);
       table = ap (spaceOf []) (i .here) ∙ space-space [] (i .words) d (omega arith) short;
     }
@@ -275,7 +276,7 @@ module _ (b : Block) (d work : List ℕ) (at : ℕ) (w : Walk) (i : Inv b d work
   finished : (token : Token) (answer : Answer) (next : events.Walk → Verdict) → eventsAt b at ≡ []
       → judgedAt b v at ≡ after next (b .place + at) (onToken b v at token)
       → meaning answer ≡ (after next (b .place + at) (onToken b v at token) then gives (w .count))
-      → Shaped (b .place) (b .structure) (b .strings) d work answer
+      → Shaped b d work answer
   finished token answer next e j m =
       let words : i .words ≡ startsOf (nodesOf (eventsIn b)) = ended e in
       let count : w .count ≡ length (nodesOf (eventsIn b)) = omega (arith, i .long, ap length words, starts-length (nodesOf (eventsIn b))) in
@@ -286,7 +287,7 @@ module _ (b : Block) (d work : List ℕ) (at : ℕ) (w : Walk) (i : Inv b d work
 
   pub at-end : (token : Token) (answer : Answer) → token ≡ tokenAt (b .structure) at → OneOf (1 ∷ 2 ∷ []) (tagOf tokens.the-type token)
       → Ends w (b .place + at) (eqb (at + 4) (length (b .structure))) token answer
-      → Shaped (b .place) (b .structure) (b .strings) d work answer
+      → Shaped b d work answer
   at-end (Item kind next) answer is h e = absurd (miss (1 ∷ 2 ∷ []) 0 tt h)
   at-end End answer is h e =
       finished End answer (λ (u : events.Walk). judge b u []) (events-end b at (i .inside) (sym is)) (judged-end b at (i .inside) v (sym is)) (e v stands (λ (u : events.Walk). judge b u []))

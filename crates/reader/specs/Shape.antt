@@ -17,6 +17,7 @@ use Rattle.rules.specs.declared.Token.{Token}
 use Rattle.rules.specs.declared.Token.the-variants.{Item, End, Cut}
 use Rattle.rules.specs.declared.Kind.{Kind}
 use Rattle.rules.specs.declared.Kind.the-variants.{Begin, EndNode, Prop, Nop}
+use Rattle.passes.specs.Passes.{blockOf}
 use Rattle.reader.specs.declared.Answer.{Answer}
 use Rattle.reader.specs.declared.Answer.the-variants.{Nodes, Refused}
 use Rattle.reader.specs.declared.shape.Walk.{Walk}
@@ -72,13 +73,10 @@ turnOf EndNode = Closes
 turnOf (Prop len name value) = Stays
 turnOf Nop = Stays
 
-abbrev pub blockOf : (place : ℕ) (structure strings : Bytes) → Block
-blockOf place structure strings = record { place = place; structure = structure; strings = strings }
-
 -- what the code needs to know of a kind is not where the next token stands
 abbrev pub DoesItem : Walk → (place : ℕ) (structure strings : Bytes) (at : ℕ) → Kind → Turn → Type 0
 DoesItem w place structure strings at kind turn =
-    Does w place (turnOf kind) (λ (v : events.Walk). onToken (blockOf place structure strings) v at (Item kind 0)) turn
+    Does w place (turnOf kind) (λ (v : events.Walk). onToken (blockOf structure strings place) v at (Item kind 0)) turn
 
 -- where no item stands
 abbrev pub lastly : events.Walk → (last : Bool) → Token → Step
@@ -96,6 +94,6 @@ Leaves (Nodes count) words old new = new ≡ spaceOf words old
 Leaves (Refused refusal) words old new = spaceOf [] new ≡ spaceOf [] old
 
 -- the walk's answer, and the table
-pub record Shaped (place : ℕ) (structure strings : Bytes) (old new : List ℕ) (answer : Answer) : Type 0 where
-  pub judged : meaning answer ≡ (shapeJudged (blockOf place structure strings) then gives (length (nodesOf (eventsIn (blockOf place structure strings)))))
-  pub table : Leaves answer (startsOf (nodesOf (eventsIn (blockOf place structure strings)))) old new
+pub record Shaped (b : Block) (old new : List ℕ) (answer : Answer) : Type 0 where
+  pub judged : meaning answer ≡ (shapeJudged b then gives (length (nodesOf (eventsIn b))))
+  pub table : Leaves answer (startsOf (nodesOf (eventsIn b))) old new

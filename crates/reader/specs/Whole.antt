@@ -14,23 +14,23 @@ use Rattle.reader.specs.declared.Answer.{Answer}
 use Rattle.reader.specs.Answers.{meaning}
 use Rattle.reader.specs.Shape.{Leaves}
 
-abbrev pub nodesIn : Block → Tree
-nodesIn b = nodesOf (eventsIn b)
+abbrev pub treeOf : Block → Tree
+treeOf b = nodesOf (eventsIn b)
 
 -- the shape has passed, and the work space holds what the walk left
 pub record Tabled (b : Block) (work : List ℕ) (count : ℕ) : Type 0 where
   pub shape : shapeJudged b ≡ passes
-  pub counted : count ≡ length (nodesIn b)
+  pub counted : count ≡ length (treeOf b)
   pub room : workWords ≤ length work
-  pub table : work ≡ spaceOf (startsOf (nodesIn b)) work
+  pub table : work ≡ spaceOf (startsOf (treeOf b)) work
 
 -- 10 to 12, and the table
 pub record Paired (b : Block) (old new : List ℕ) (answer : Answer) : Type 0 where
-  pub judged : meaning answer ≡ (doubledJudged (nodesIn b) then wordsJudged (nodesIn b) then sharedJudged (nodesIn b) then gives (length (nodesIn b)))
-  pub table : Leaves answer (rowsOf (nodesIn b)) old new
+  pub judged : meaning answer ≡ (doubledJudged (treeOf b) then wordsJudged (treeOf b) then sharedJudged (treeOf b) then gives (length (treeOf b)))
+  pub table : Leaves answer (rowsOf (treeOf b)) old new
 
 -- 6 to 12, and the table
 pub record Judged (b : Block) (old new : List ℕ) (answer : Answer) : Type 0 where
   pub judged : meaning answer
-      ≡ (shapeJudged b then doubledJudged (nodesIn b) then wordsJudged (nodesIn b) then sharedJudged (nodesIn b) then gives (length (nodesIn b)))
-  pub table : Leaves answer (rowsOf (nodesIn b)) old new
+      ≡ (shapeJudged b then doubledJudged (treeOf b) then wordsJudged (treeOf b) then sharedJudged (treeOf b) then gives (length (treeOf b)))
+  pub table : Leaves answer (rowsOf (treeOf b)) old new

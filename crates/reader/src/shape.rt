@@ -14,6 +14,7 @@ ghost use lib.ListN.{length};
 ghost use Rattle.rules.specs.Ceilings.{blobCeiling, openCeiling, nodeCeiling, workWords};
 ghost use Rattle.rules.specs.Events.{opening, closing, holding, propertyReads};
 ghost use Rattle.rules.specs.Reader.{spaceOf};
+ghost use Rattle.passes.specs.Passes.{blockOf};
 ghost use Rattle.reader.specs.Shape.{openedBy, closedBy, Does, DoesItem, Ends, Shaped};
 
 // How far the walk has come.
@@ -171,7 +172,7 @@ pub fn judge(structure: &[u8], strings: &[u8], place: usize, work: &mut [u32]) -
     requires { ⌜ place + length (now structure) ≤ blobCeiling ⌝ }
     requires { ⌜ workWords ≤ length (now work) ⌝ }
     requires { ⌜ now work ≡ spaceOf [] (now work) ⌝ }
-    ensures { λ r. ⌜ Shaped place (now (structure .entry)) (now (strings .entry)) (now (work .entry)) (now (work .exit)) r ⌝ }
+    ensures { λ r. ⌜ Shaped (blockOf (now (structure .entry)) (now (strings .entry)) place) (now (work .entry)) (now (work .exit)) r ⌝ }
 {
     let mut at = 0;
     let mut w = Walk {

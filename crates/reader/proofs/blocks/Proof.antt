@@ -1,12 +1,8 @@
 -- `blocks` meets its contract: the parts lie inside, the walk judges the shape, and then the pairs are judged.
-use mathlib.Core.Path.{_≡_, subst}
-use Prim.Native.Nat.{_+_, _-_}
+use mathlib.Core.Path.{subst}
 use native.Mathlib.Omega.{arith}
-use lib.ListN.{take, drop}
 use denote.Ref.{now}
-use Rattle.rules.specs.Ceilings.{blobCeiling}
 use Rattle.rules.specs.Blob.{Block}
-use Rattle.reader.specs.Shape.{blockOf}
 use Rattle.reader.specs.Whole.{Judged}
 use Rattle.reader.proofs.Joined.{structure-end, strings-end, block-is, part-short, tabled, paired, shape-refused}
 use borrow.Author.Needs.{needs}
@@ -14,10 +10,10 @@ use Rattle.reader.proofs.blocks.Statement.{statement}
 use Rattle.reader.proofs.blocks.Tie as tie
 
 add-end : tie.Need-add-end
-add-end c = omega (arith, structure-end (now (c .before .before .before .args .blob)) (c .before .before .before .args .parts) (c .before .before .before .pre .0))
+add-end c = omega (arith, structure-end (c .before .before .before .pre .0))
 
 add-to : tie.Need-add-to
-add-to c = omega (arith, strings-end (now (c .before .before .before .before .args .blob)) (c .before .before .before .before .args .parts) (c .before .before .before .before .pre .0))
+add-to c = omega (arith, strings-end (c .before .before .before .before .pre .0))
 
 sub-structure : tie.Need-sub-structure
 sub-structure c = search needs
@@ -26,7 +22,7 @@ part-structure-start : tie.Need-part-structure-start
 part-structure-start c = search needs
 
 part-structure-end : tie.Need-part-structure-end
-part-structure-end c = omega (arith, structure-end (now (c .before .before .before .before .args .blob)) (c .before .before .before .before .args .parts) (c .before .before .before .before .pre .0))
+part-structure-end c = omega (arith, structure-end (c .before .before .before .before .pre .0))
 
 sub-strings : tie.Need-sub-strings
 sub-strings c = search needs
@@ -35,10 +31,10 @@ part-strings-start : tie.Need-part-strings-start
 part-strings-start c = search needs
 
 part-strings-end : tie.Need-part-strings-end
-part-strings-end c = omega (arith, strings-end (now (c .before .before .before .before .before .args .blob)) (c .before .before .before .before .before .args .parts) (c .before .before .before .before .before .pre .0))
+part-strings-end c = omega (arith, strings-end (c .before .before .before .before .before .pre .0))
 
 judge-requires : tie.Need-judge-requires
-judge-requires c κs = (part-short (now (c .before .before .before .before .before .before .before .args .blob)) (c .before .before .before .before .before .before .before .args .parts) (c .before .before .before .before .before .before .before .pre .0), (c .before .before .before .before .before .before .before .pre .1 .0, c .before .before .before .before .before .before .before .pre .1 .1))
+judge-requires c κs = (part-short (c .before .before .before .before .before .before .before .pre .0), (c .before .before .before .before .before .before .before .pre .1 .0, c .before .before .before .before .before .before .before .pre .1 .1))
 
 enum-known-shaped : tie.Need-enum-known-shaped
 enum-known-shaped c = search needs
@@ -50,20 +46,18 @@ same-length : tie.Need-same-length
 same-length c = search needs
 
 returns : tie.Need-returns
-returns c =
-    subst (λ (b : Block). Judged b (now (c .before .before .before .before .before .before .before .before .before .before .before .before .args .work)) (c .before .before .before .before .judge .last .1 .1 .1 .0) (c .before .before .before .before .judge .result)) (block-is (now (c .before .before .before .before .before .before .before .before .before .before .before .before .args .blob)) (c .before .before .before .before .before .before .before .before .before .before .before .before .args .parts) (c .before .before .before .before .before .before .before .before .before .before .before .before .pre .0))
-    (shape-refused (blockOf (c .before .before .before .before .before .before .before .before .before .before .before .before .args .parts .structure) (take (c .before .before .before .before .before .before .before .before .before .before .before .before .args .parts .structure + c .before .before .before .before .before .before .before .before .before .before .before .before .args .parts .«structure_size» - c .before .before .before .before .before .before .before .before .before .before .before .before .args .parts .structure) (drop (c .before .before .before .before .before .before .before .before .before .before .before .before .args .parts .structure) (now (c .before .before .before .before .before .before .before .before .before .before .before .before .args .blob)))) (take (c .before .before .before .before .before .before .before .before .before .before .before .before .args .parts .strings + c .before .before .before .before .before .before .before .before .before .before .before .before .args .parts .«strings_size» - c .before .before .before .before .before .before .before .before .before .before .before .before .args .parts .strings) (drop (c .before .before .before .before .before .before .before .before .before .before .before .before .args .parts .strings) (now (c .before .before .before .before .before .before .before .before .before .before .before .before .args .blob))))) (now (c .before .before .before .before .before .before .before .before .before .before .before .before .args .work)) (c .before .before .before .before .judge .last .1 .1 .1 .0) (c .before .before .before .before .judge .result) (c .enum-told .given .0 .0) (c .enum-told .given .1) (c .before .before .before .before .judge .ensures))
+returns c = subst (λ (b : Block). Judged b (now (c .before .before .before .before .before .before .before .before .before .before .before .before .args .work)) (c .before .before .before .before .judge .last .1 .1 .1 .0) (c .before .before .before .before .judge .result)) (block-is (c .before .before .before .before .before .before .before .before .before .before .before .before .pre .0)) (shape-refused (c .enum-told .given .1) (c .before .before .before .before .judge .ensures))
 
 judge-requires-2 : tie.Need-judge-requires-2
-judge-requires-2 c κs = (part-short (now (c .before .before .before .before .before .before .before .before .before .before .before .before .before .before .args .blob)) (c .before .before .before .before .before .before .before .before .before .before .before .before .before .before .args .parts) (c .before .before .before .before .before .before .before .before .before .before .before .before .before .before .pre .0), tabled (blockOf (c .before .before .before .before .before .before .before .before .before .before .before .before .before .before .args .parts .structure) (take (c .before .before .before .before .before .before .before .before .before .before .before .before .before .before .args .parts .structure + c .before .before .before .before .before .before .before .before .before .before .before .before .before .before .args .parts .«structure_size» - c .before .before .before .before .before .before .before .before .before .before .before .before .before .before .args .parts .structure) (drop (c .before .before .before .before .before .before .before .before .before .before .before .before .before .before .args .parts .structure) (now (c .before .before .before .before .before .before .before .before .before .before .before .before .before .before .args .blob)))) (take (c .before .before .before .before .before .before .before .before .before .before .before .before .before .before .args .parts .strings + c .before .before .before .before .before .before .before .before .before .before .before .before .before .before .args .parts .«strings_size» - c .before .before .before .before .before .before .before .before .before .before .before .before .before .before .args .parts .strings) (drop (c .before .before .before .before .before .before .before .before .before .before .before .before .before .before .args .parts .strings) (now (c .before .before .before .before .before .before .before .before .before .before .before .before .before .before .args .blob))))) (now (c .before .before .before .before .before .before .before .before .before .before .before .before .before .before .args .work)) (c .before .before .before .before .before .before .judge .last .1 .1 .1 .0) (c .before .before .before .before .before .before .judge .result) (c .before .before .shaped .given .0 .0) (c .before .before .before .before .before .before .judge .ensures) (c .before .before .shaped .given .1) (c .before .before .before .before .before .before .before .before .before .before .before .before .before .before .pre .1 .0))
+judge-requires-2 c κs = (part-short (c .before .before .before .before .before .before .before .before .before .before .before .before .before .before .pre .0), tabled (c .before .before .before .before .before .before .judge .ensures) (c .before .before .shaped .given .1) (c .before .before .before .before .before .before .before .before .before .before .before .before .before .before .pre .1 .0))
 
 same-length-2 : tie.Need-same-length-2
 same-length-2 c = search needs
 
 returns-2 : tie.Need-returns-2
 returns-2 c =
-    subst (λ (b : Block). Judged b (now (c .before .before .before .before .before .before .before .before .before .before .before .before .before .before .before .before .before .args .work)) (c .before .before .judge2 .last .1 .1 .1 .1 .0) (c .before .before .judge2 .result)) (block-is (now (c .before .before .before .before .before .before .before .before .before .before .before .before .before .before .before .before .before .args .blob)) (c .before .before .before .before .before .before .before .before .before .before .before .before .before .before .before .before .before .args .parts) (c .before .before .before .before .before .before .before .before .before .before .before .before .before .before .before .before .before .pre .0))
-    (paired (blockOf (c .before .before .before .before .before .before .before .before .before .before .before .before .before .before .before .before .before .args .parts .structure) (take (c .before .before .before .before .before .before .before .before .before .before .before .before .before .before .before .before .before .args .parts .structure + c .before .before .before .before .before .before .before .before .before .before .before .before .before .before .before .before .before .args .parts .«structure_size» - c .before .before .before .before .before .before .before .before .before .before .before .before .before .before .before .before .before .args .parts .structure) (drop (c .before .before .before .before .before .before .before .before .before .before .before .before .before .before .before .before .before .args .parts .structure) (now (c .before .before .before .before .before .before .before .before .before .before .before .before .before .before .before .before .before .args .blob)))) (take (c .before .before .before .before .before .before .before .before .before .before .before .before .before .before .before .before .before .args .parts .strings + c .before .before .before .before .before .before .before .before .before .before .before .before .before .before .before .before .before .args .parts .«strings_size» - c .before .before .before .before .before .before .before .before .before .before .before .before .before .before .before .before .before .args .parts .strings) (drop (c .before .before .before .before .before .before .before .before .before .before .before .before .before .before .before .before .before .args .parts .strings) (now (c .before .before .before .before .before .before .before .before .before .before .before .before .before .before .before .before .before .args .blob))))) (now (c .before .before .before .before .before .before .before .before .before .before .before .before .before .before .before .before .before .args .work)) (c .before .before .before .before .before .before .before .before .before .judge .last .1 .1 .1 .0) (c .before .before .before .before .before .before .before .before .before .judge .result) (c .before .before .before .before .before .shaped .given .0 .0) (c .before .before .before .before .before .before .before .before .before .judge .ensures) (c .before .before .before .before .before .shaped .given .1) (c .before .before .before .before .before .before .before .before .before .before .before .before .before .before .before .before .before .pre .1 .0) (c .before .before .judge2 .result) (c .before .before .judge2 .last .1 .1 .1 .1 .0) (c .before .before .judge2 .ensures))
+    subst (λ (b : Block). Judged b (now (c .before .before .before .before .before .before .before .before .before .before .before .before .before .before .before .before .before .args .work)) (c .before .before .judge2 .last .1 .1 .1 .1 .0) (c .before .before .judge2 .result)) (block-is (c .before .before .before .before .before .before .before .before .before .before .before .before .before .before .before .before .before .pre .0))
+    (paired (c .before .before .before .before .before .before .before .before .before .judge .ensures) (c .before .before .before .before .before .shaped .given .1) (c .before .before .before .before .before .before .before .before .before .before .before .before .before .before .before .before .before .pre .1 .0) (c .before .before .judge2 .ensures))
 
 pub blocks-spec : {M : Type 1} → statement M
 blocks-spec = tie.close (tie.spec add-end add-to sub-structure part-structure-start part-structure-end sub-strings part-strings-start part-strings-end judge-requires enum-known-shaped enum-told same-length returns judge-requires-2 same-length-2 returns-2)

@@ -29,7 +29,7 @@ enum-known-parts c = search needs
 
 blocks-requires : tie.Need-blocks-requires
 unfolding workWords
-blocks-requires c κs = (subst (Heads (now (c .before .before .before .before .before .before .before .before .before .before .before .before .args .blob))) (c .before .before .parts .given .1) (c .before .before .before .before .judge .ensures), (clear-long (now (c .before .before .before .before .before .before .before .before .before .before .before .before .args .blob)) (now (c .before .before .before .before .before .before .before .before .before .before .before .before .args .work)) (c .before .before .before .before .before .before .before .clear .last .0) (c .before .before .before .before .before .before .before .before .before .if1 .left) (c .before .before .before .before .before .before .before .clear .ensures), clear-again (now (c .before .before .before .before .before .before .before .before .before .before .before .before .args .blob)) (now (c .before .before .before .before .before .before .before .before .before .before .before .before .args .work)) (c .before .before .before .before .before .before .before .clear .last .0) (c .before .before .before .before .before .before .before .before .before .if1 .left) (c .before .before .before .before .before .before .before .clear .ensures)))
+blocks-requires c κs = (subst (Heads (now (c .before .before .before .before .before .before .before .before .before .before .before .before .args .blob))) (c .before .before .parts .given .1) (c .before .before .before .before .judge .ensures), (clear-long (now (c .before .before .before .before .before .before .before .before .before .before .before .before .args .blob)) (now (c .before .before .before .before .before .before .before .before .before .before .before .before .args .work)) (c .before .before .before .before .before .before .before .before .before .if1 .left) (c .before .before .before .before .before .before .before .clear .ensures), clear-again (now (c .before .before .before .before .before .before .before .before .before .before .before .before .args .blob)) (now (c .before .before .before .before .before .before .before .before .before .before .before .before .args .work)) (c .before .before .before .before .before .before .before .before .before .if1 .left) (c .before .before .before .before .before .before .before .clear .ensures)))
 
 enum-known-answer : tie.Need-enum-known-answer
 enum-known-answer c = search needs
@@ -45,21 +45,21 @@ same-length c = search needs
 
 returns-2 : tie.Need-returns-2
 unfolding workWords
-returns-2 c = (read-answer (now (c .before .before .before .before .before .before .before .before .before .before .before .before .before .before .before .before .before .before .before .before .before .args .blob)) (now (c .before .before .before .before .before .before .before .before .before .before .before .before .before .before .before .before .before .before .before .before .before .args .work)) (c .before .before .before .before .before .before .before .before .before .before .before .before .before .before .before .before .clear .last .0) (c .before .before .before .before .before .before .before .before .before .before .before .before .before .before .before .before .before .before .if1 .left) (c .before .before .before .before .before .before .before .before .before .before .before .before .before .before .before .before .clear .ensures) (c .before .before .before .before .before .before .before .before .blocks2 .last .1 .1 .0) (c .before .before .before .before .before .before .before .before .blocks2 .result) (subst (Heads (now (c .before .before .before .before .before .before .before .before .before .before .before .before .before .before .before .before .before .before .before .before .before .args .blob))) (c .before .before .before .before .before .before .before .before .before .before .before .parts .given .1) (c .before .before .before .before .before .before .before .before .before .before .before .before .before .judge .ensures) .judged) (c .before .before .before .before .before .before .before .before .blocks2 .ensures), read-refused (now (c .before .before .before .before .before .before .before .before .before .before .before .before .before .before .before .before .before .before .before .before .before .args .blob)) (now (c .before .before .before .before .before .before .before .before .before .before .before .before .before .before .before .before .before .before .before .before .before .args .work)) (c .before .before .before .before .before .before .before .before .before .before .before .before .before .before .before .before .clear .last .0) (c .before .before .before .before .before .before .before .before .before .before .before .before .before .before .before .before .before .before .if1 .left) (c .before .before .before .before .before .before .before .before .before .before .before .before .before .before .before .before .clear .ensures) (c .before .before .before .before .before .before .before .before .blocks2 .last .1 .1 .0) (c .before .before .before .before .before .before .before .before .blocks2 .result) (subst (Heads (now (c .before .before .before .before .before .before .before .before .before .before .before .before .before .before .before .before .before .before .before .before .before .args .blob))) (c .before .before .before .before .before .before .before .before .before .before .before .parts .given .1) (c .before .before .before .before .before .before .before .before .before .before .before .before .before .judge .ensures) .judged) (c .before .before .before .before .before .before .before .before .blocks2 .ensures) (c .before .before .before .before .enum-told .given .0 .0) (c .before .before .clear2 .last .0) (c .before .before .before .before .enum-told .given .1) (c .before .before .clear2 .ensures) (omega (arith, clear-long (now (c .before .before .before .before .before .before .before .before .before .before .before .before .before .before .before .before .before .before .before .before .before .args .blob)) (now (c .before .before .before .before .before .before .before .before .before .before .before .before .before .before .before .before .before .before .before .before .before .args .work)) (c .before .before .before .before .before .before .before .before .before .before .before .before .before .before .before .before .clear .last .0) (c .before .before .before .before .before .before .before .before .before .before .before .before .before .before .before .before .before .before .if1 .left) (c .before .before .before .before .before .before .before .before .before .before .before .before .before .before .before .before .clear .ensures), c .before .before .before .before .before .before .before .before .blocks2 .kept .1 .1 .0)))
+returns-2 c = (read-answer (now (c .before .before .before .before .before .before .before .before .before .before .before .before .before .before .before .before .before .before .before .before .before .args .blob)) (now (c .before .before .before .before .before .before .before .before .before .before .before .before .before .before .before .before .before .before .before .before .before .args .work)) (c .before .before .before .before .before .before .before .before .before .before .before .before .before .before .before .before .before .before .if1 .left) (c .before .before .before .before .before .before .before .before .before .before .before .before .before .before .before .before .clear .ensures) (subst (Heads (now (c .before .before .before .before .before .before .before .before .before .before .before .before .before .before .before .before .before .before .before .before .before .args .blob))) (c .before .before .before .before .before .before .before .before .before .before .before .parts .given .1) (c .before .before .before .before .before .before .before .before .before .before .before .before .before .judge .ensures) .judged) (c .before .before .before .before .before .before .before .before .blocks2 .ensures), read-refused (now (c .before .before .before .before .before .before .before .before .before .before .before .before .before .before .before .before .before .before .before .before .before .args .blob)) (now (c .before .before .before .before .before .before .before .before .before .before .before .before .before .before .before .before .before .before .before .before .before .args .work)) (c .before .before .before .before .before .before .before .before .before .before .before .before .before .before .before .before .before .before .if1 .left) (c .before .before .before .before .before .before .before .before .before .before .before .before .before .before .before .before .clear .ensures) (subst (Heads (now (c .before .before .before .before .before .before .before .before .before .before .before .before .before .before .before .before .before .before .before .before .before .args .blob))) (c .before .before .before .before .before .before .before .before .before .before .before .parts .given .1) (c .before .before .before .before .before .before .before .before .before .before .before .before .before .judge .ensures) .judged) (c .before .before .before .before .before .before .before .before .blocks2 .ensures) (c .before .before .before .before .enum-told .given .1) (c .before .before .clear2 .ensures) (omega (arith, clear-long (now (c .before .before .before .before .before .before .before .before .before .before .before .before .before .before .before .before .before .before .before .before .before .args .blob)) (now (c .before .before .before .before .before .before .before .before .before .before .before .before .before .before .before .before .before .before .before .before .before .args .work)) (c .before .before .before .before .before .before .before .before .before .before .before .before .before .before .before .before .before .before .if1 .left) (c .before .before .before .before .before .before .before .before .before .before .before .before .before .before .before .before .clear .ensures), c .before .before .before .before .before .before .before .before .blocks2 .kept .1 .1 .0)))
 
 same-length-2 : tie.Need-same-length-2
 same-length-2 c = search needs
 
 returns-3 : tie.Need-returns-3
 unfolding workWords
-returns-3 c = head-refused (now (c .before .before .before .before .before .before .before .before .before .before .before .args .blob)) (now (c .before .before .before .before .before .before .before .before .before .before .before .args .work)) (c .before .before .before .before .before .before .clear .last .0) (c .before .before .before .before .before .before .before .before .if1 .left) (c .before .before .before .before .before .before .clear .ensures) (c .before .refusal .given .0 .0) (subst (Heads (now (c .before .before .before .before .before .before .before .before .before .before .before .args .blob))) (c .before .refusal .given .1) (c .before .before .before .judge .ensures))
+returns-3 c = head-refused (now (c .before .before .before .before .before .before .before .before .before .before .before .args .blob)) (now (c .before .before .before .before .before .before .before .before .before .before .before .args .work)) (c .before .before .before .before .before .before .before .before .if1 .left) (c .before .before .before .before .before .before .clear .ensures) (c .before .refusal .given .0 .0) (subst (Heads (now (c .before .before .before .before .before .before .before .before .before .before .before .args .blob))) (c .before .refusal .given .1) (c .before .before .before .judge .ensures))
 
 same-length-3 : tie.Need-same-length-3
 same-length-3 c = search needs
 
 returns-4 : tie.Need-returns-4
 unfolding workWords
-returns-4 c = (sym (ap meaning (c .before .answer .given .1)) ∙ read-answer (now (c .before .before .before .before .before .before .before .before .before .before .before .before .before .before .before .before .before .before .args .blob)) (now (c .before .before .before .before .before .before .before .before .before .before .before .before .before .before .before .before .before .before .args .work)) (c .before .before .before .before .before .before .before .before .before .before .before .before .before .clear .last .0) (c .before .before .before .before .before .before .before .before .before .before .before .before .before .before .before .if1 .left) (c .before .before .before .before .before .before .before .before .before .before .before .before .before .clear .ensures) (c .before .before .before .before .before .blocks2 .last .1 .1 .0) (c .before .before .before .before .before .blocks2 .result) (subst (Heads (now (c .before .before .before .before .before .before .before .before .before .before .before .before .before .before .before .before .before .before .args .blob))) (c .before .before .before .before .before .before .before .before .parts .given .1) (c .before .before .before .before .before .before .before .before .before .before .judge .ensures) .judged) (c .before .before .before .before .before .blocks2 .ensures), read-nodes (now (c .before .before .before .before .before .before .before .before .before .before .before .before .before .before .before .before .before .before .args .blob)) (now (c .before .before .before .before .before .before .before .before .before .before .before .before .before .before .before .before .before .before .args .work)) (c .before .before .before .before .before .before .before .before .before .before .before .before .before .clear .last .0) (c .before .before .before .before .before .before .before .before .before .before .before .before .before .before .before .if1 .left) (c .before .before .before .before .before .before .before .before .before .before .before .before .before .clear .ensures) (c .before .before .before .before .before .blocks2 .last .1 .1 .0) (c .before .before .before .before .before .blocks2 .result) (subst (Heads (now (c .before .before .before .before .before .before .before .before .before .before .before .before .before .before .before .before .before .before .args .blob))) (c .before .before .before .before .before .before .before .before .parts .given .1) (c .before .before .before .before .before .before .before .before .before .before .judge .ensures) .judged) (c .before .before .before .before .before .blocks2 .ensures) (c .before .answer .given .0 .0) (c .before .answer .given .1))
+returns-4 c = (sym (ap meaning (c .before .answer .given .1)) ∙ read-answer (now (c .before .before .before .before .before .before .before .before .before .before .before .before .before .before .before .before .before .before .args .blob)) (now (c .before .before .before .before .before .before .before .before .before .before .before .before .before .before .before .before .before .before .args .work)) (c .before .before .before .before .before .before .before .before .before .before .before .before .before .before .before .if1 .left) (c .before .before .before .before .before .before .before .before .before .before .before .before .before .clear .ensures) (subst (Heads (now (c .before .before .before .before .before .before .before .before .before .before .before .before .before .before .before .before .before .before .args .blob))) (c .before .before .before .before .before .before .before .before .parts .given .1) (c .before .before .before .before .before .before .before .before .before .before .judge .ensures) .judged) (c .before .before .before .before .before .blocks2 .ensures), read-nodes (now (c .before .before .before .before .before .before .before .before .before .before .before .before .before .before .before .before .before .before .args .blob)) (now (c .before .before .before .before .before .before .before .before .before .before .before .before .before .before .before .before .before .before .args .work)) (c .before .before .before .before .before .before .before .before .before .before .before .before .before .before .before .if1 .left) (c .before .before .before .before .before .before .before .before .before .before .before .before .before .clear .ensures) (subst (Heads (now (c .before .before .before .before .before .before .before .before .before .before .before .before .before .before .before .before .before .before .args .blob))) (c .before .before .before .before .before .before .before .before .parts .given .1) (c .before .before .before .before .before .before .before .before .before .before .judge .ensures) .judged) (c .before .before .before .before .before .blocks2 .ensures) (c .before .answer .given .1))
 
 pub read-spec : {M : Type 1} → statement M
 read-spec = tie.close (tie.spec returns clear-requires judge-requires enum-known-refusal enum-known-parts blocks-requires enum-known-answer enum-told clear-requires-2 same-length returns-2 same-length-2 returns-3 same-length-3 returns-4)
