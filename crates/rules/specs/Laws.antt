@@ -34,3 +34,5 @@ pub mod GuestCopy
 pub mod Trips
 pub mod Places
 pub mod Table
+pub mod Tabled
+pub mod TabledRead

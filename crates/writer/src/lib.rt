@@ -372,7 +372,7 @@ impl FdtWriter {
         ensures noted { λ _. ⌜ now (phandles .exit) ≡ phandleTable (stateOf self) (length (now («data» .entry))) (now (strings .entry)) (now (phandles .entry)) val ⌝ }
     {
         match judge::phandle(self, data.len(), strings, phandles, val) {
-            Place::Not(e) => Written::Refused(self, e),
+            Place::Not(e) => Written::Refused(self, e), // the number stays free
             Place::At(offset) => {
                 append::property_words(data, self.data_len, offset, &[val]);
                 octets::put_word_of(phandles, self.phandles_len, val);

@@ -1,0 +1,5 @@
+-- The laws that the proofs of this crate cite.
+pub mod Names
+pub mod Tables
+pub mod Counts
+pub mod Scans
