@@ -155,7 +155,7 @@ def cases():
     refused = {}
     for label, data, words in reader_cases.cases():
         kind, number, _ = reading.read(data)
-        if words == 16384 and kind == "refused" and len(data) < 4096 and refused.setdefault(number, label) == label:
+        if words == 16384 and kind == "refused" and refused.setdefault(number, label) == label:
             yield label, data, ROOM
     for label, data in written():
         yield label, data, ROOM
