@@ -1,14 +1,16 @@
 #!/usr/bin/env python3
 """dtc_check.py: asks dtc about what the case programs print. Run from the root of the repository; needs dtc.
 - Of each tree that dtc built (trees/*.dtb), the node count in dtc's own listing is the one in crates/reader_cases/stdout.
-- Of each finished blob in crates/writer_cases/stdout (lines `blob LABEL HEX`), dtc reads it without complaint."""
-import os, re, subprocess, sys
+- Of each finished blob in crates/writer_cases/stdout (lines `blob LABEL HEX`), dtc reads it without complaint.
+- Of each finished blob in crates/again_cases/stdout, dtc's listing is that of the blob that was read: of the tree in trees/ whose
+  name is the label, or of the hand-made one in crates/again_cases/stdin if dtc reads that."""
+import os, re, struct, subprocess, sys
 
 faults = 0
 
 
-def dtc(data):
-    return subprocess.run(["dtc", "-I", "dtb", "-O", "dts"], input=data, stdout=subprocess.PIPE, stderr=subprocess.PIPE)
+def dtc(data, *words):
+    return subprocess.run(["dtc", *words, "-I", "dtb", "-O", "dts"], input=data, stdout=subprocess.PIPE, stderr=subprocess.PIPE)
 
 
 def lines(crate):
@@ -29,5 +31,34 @@ for label, text in blobs:
     if got.returncode or got.stderr:
         print(f"{label}: dtc says {got.stderr.decode().strip() or got.returncode}")
         faults += 1
-print(f"dtc_check: {len(counts)} trees counted, {len(blobs)} written blobs read, {faults} faults")
+
+
+def given():
+    """The blobs of crates/again_cases/stdin by their labels without spaces: what the program is lent."""
+    path, blobs, at = os.path.join("crates", "again_cases", "stdin"), {}, 0
+    data = open(path, "rb").read() if os.path.exists(path) else b""
+    while at < len(data):
+        label, front, zeros, rest, _ = struct.unpack_from(">5I", data, at)
+        begin = at + 20 + label
+        at = begin + front + rest
+        blobs[data[begin - label:begin].decode().replace(" ", "_")] = data[begin:begin + front] + bytes(zeros) + data[begin + front:at]
+    return blobs
+
+
+again, originals, trees, others = [l.split()[1:] for l in lines("again_cases") if l.startswith("blob ")], given(), 0, 0
+for label, text in again:
+    first, path = originals[label], os.path.join("trees", label)
+    if os.path.exists(path):
+        with open(path, "rb") as f:
+            first = f.read()
+        trees += 1
+    listed = dtc(first, "-q")
+    if listed.returncode and not os.path.exists(path):
+        continue
+    others += not os.path.exists(path)
+    relisted = dtc(bytes.fromhex(text), "-q")
+    if (listed.returncode, listed.stdout) != (relisted.returncode, relisted.stdout):
+        print(f"{label}: written again, dtc lists it otherwise")
+        faults += 1
+print(f"dtc_check: {len(counts)} trees counted, {len(blobs)} written blobs read, {trees} trees and {others} other blobs written again, {faults} faults")
 sys.exit(1 if faults else 0)

@@ -1,0 +1,153 @@
+// Reads each blob of standard input, writes what it says again by the writer's calls, reads that, and prints whether both say
+// the same. A case is five numbers (the lengths of the label, of the blob's front, of the zeros behind that and of the blob's
+// rest, and how many bytes are lent for the second blob), the label, the front and the rest. tools/again_cases.py makes the
+// cases and the lines that are expected.
+mod compare;
+mod rewrite;
+mod told;
+
+use libc::STDIN_FILENO;
+use libc::STDOUT_FILENO;
+use reader::Answer;
+use writer::Written;
+ghost use Rattle.io.specs.Counts.{Counts};
+
+// Room for the longest blob, for the strings of the second one, and for the reader.
+const BLOB: usize = 1048640;
+
+const STRINGS: usize = 65536;
+
+const WORDS: usize = 16384;
+
+const LABEL: usize = 256;
+
+// The bytes of five numbers.
+const HEAD: usize = 20;
+
+// A second blob up to this length is printed.
+const SHOWN: usize = 2048;
+
+// The number, or the buffer's length where that is less.
+fn within(n: usize, buffer: &[u8]) -> usize
+    ensures { λ r. ⌜ Counts r (now (buffer .entry)) ⌝ }
+{
+    let most = buffer.len();
+    if n < most {
+        return n;
+    }
+    most
+}
+
+// The number at a place of a case's head.
+fn number(s: &[u8; HEAD], at: usize) -> usize {
+    octets::word(s, at) as usize
+}
+
+// Reads n bytes, or as many as there is room for, and answers how many that is.
+fn take(into: &mut [u8], n: usize) -> usize {
+    let m = within(n, into);
+    io::read_full(STDIN_FILENO, &mut into[..m]);
+    m
+}
+
+// Reads n bytes to a place, as `take` does.
+fn take_at(into: &mut [u8], place: usize, n: usize) -> usize {
+    let at = within(place, into);
+    take(&mut into[at..], n)
+}
+
+// What the second reading answers of the blob that was written.
+fn judge(blob: &[u8], second: &[u8], count: usize, work: &mut [u32]) {
+    match reader::read(second, work) {
+        Answer::Refused(refusal) => told::refused(refusal),
+        Answer::Nodes(again) => told::verdict(count == again && compare::same(blob, second)),
+    }
+}
+
+// Writes an accepted blob again, and prints what came of it.
+fn trip(
+    label: &[u8],
+    blob: &[u8],
+    count: usize,
+    data: &mut [u8],
+    strings: &mut [u8],
+    work: &mut [u32],
+) {
+    told::nodes(count);
+    match rewrite::again(blob, data, strings) {
+        Written::Refused(_, error) => {
+            told::stopped(error);
+        }
+        Written::Done(w) => {
+            let second = octets::part(data, 0, w.data_len);
+            told::length(second.len());
+            told::digests(compare::events(blob), compare::events(second));
+            judge(blob, second, count, work);
+            if second.len() <= SHOWN {
+                told::shown(label, second);
+            }
+        }
+    }
+}
+
+fn run(label: &[u8], blob: &[u8], data: &mut [u8], strings: &mut [u8], work: &mut [u32]) {
+    io::write_all(STDOUT_FILENO, label);
+    match reader::read(blob, work) {
+        Answer::Refused(refusal) => told::refused(refusal),
+        Answer::Nodes(count) => trip(label, blob, count, data, strings, work),
+    }
+}
+
+// Runs a case with no more than `room` bytes for the second blob.
+fn lend(
+    label: &[u8],
+    blob: &[u8],
+    room: usize,
+    data: &mut [u8],
+    strings: &mut [u8],
+    work: &mut [u32],
+) {
+    let m = within(room, data);
+    run(label, blob, &mut data[..m], strings, work);
+}
+
+// One case; false where there is none left.
+fn next(
+    blob: &mut [u8; BLOB],
+    data: &mut [u8; BLOB],
+    strings: &mut [u8; STRINGS],
+    work: &mut [u32; WORDS],
+) -> bool {
+    let mut head = [0u8; HEAD];
+    let got = io::read_full(STDIN_FILENO, &mut head);
+    if got < HEAD {
+        return false;
+    }
+    let mut label = [0u8; LABEL];
+    let text = take(&mut label, number(&head, 0));
+    let front = take(blob, number(&head, 4));
+    let zeros = number(&head, 8);
+    octets::put_zeros(blob, front, zeros);
+    let place = compare::up(front, zeros);
+    let rest = take_at(blob, place, number(&head, 12));
+    lend(
+        octets::part(&label, 0, text),
+        octets::part(blob, 0, compare::up(place, rest)),
+        number(&head, 16),
+        data,
+        strings,
+        work,
+    );
+    true
+}
+
+fn main() {
+    let mut blob = [0u8; BLOB];
+    let mut data = [0u8; BLOB];
+    let mut strings = [0u8; STRINGS];
+    let mut work = [0u32; WORDS];
+    let mut turns: u32 = 100000;
+    while turns > 0 && next(&mut blob, &mut data, &mut strings, &mut work) {
+        turns -= 1;
+    }
+}
