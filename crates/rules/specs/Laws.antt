@@ -32,3 +32,5 @@ pub mod ReadBack
 pub mod BlobBack
 pub mod GuestCopy
 pub mod Trips
+pub mod Given
+pub mod Program
