@@ -32,7 +32,9 @@ pub mod ReadBack
 pub mod BlobBack
 pub mod GuestCopy
 pub mod Trips
+pub mod Given
 pub mod Places
+pub mod Program
 pub mod Table
 pub mod Tabled
 pub mod TabledRead

@@ -1,0 +1,2 @@
+-- What the proofs of path lists share.
+pub mod Turns
