@@ -1,0 +1,1 @@
+-- The program promises nothing: what it writes is compared.
