@@ -1,9 +1,7 @@
 -- `entry_at` meets its contract.
 use native.Mathlib.Omega.{arith}
-use lib.ListN.{length-drop}
 use denote.Ref.{now}
 use borrow.Author.Tests.{lt-ltb, le-ltb}
-use Rattle.rules.specs.Laws.Octets.{nul-le}
 use Rattle.rules.specs.Laws.Given.{given-inside}
 use Rattle.given.specs.Entries.{pathOf, entryAt}
 use borrow.Author.Needs.{needs}

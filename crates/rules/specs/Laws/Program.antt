@@ -1,7 +1,7 @@
 -- The laws of the command program's texts: lines from a place on without their fuel, decimal numbers read and printed, and lists
 -- that are laid into a buffer part by part.
-use mathlib.Core.Path.{_≡_, refl, sym, ap, ap₂, _∙_}
-use mathlib.Core.Bool.{Bool, true, false, _&&_}
+use mathlib.Core.Path.{_≡_, refl, sym, ap, _∙_}
+use mathlib.Core.Bool.{true, false, _&&_}
 use mathlib.Core.List.{List, [], _∷_, _++_, append-assoc, append-nil}
 use Prim.Native.Nat.{ℕ, zero, suc, _+_, _-_, _*_, _/_, _%_, _^_, _≤_, _<_}
 use native.Mathlib.Nat.{add-assoc, zero-add}
@@ -11,11 +11,10 @@ use lib.Dec.{eqb, leb, ltb}
 use lib.ListN.{length, take, drop, length-append, length-drop, drop-of-length-le}
 use lib.Seq.{drop-cons, drop-drop}
 use borrow.Author.Tests.{eqb-true, eqb-false, eq-eqb, ne-eqb, lt-leb, le-leb, ltb-false, lt-ltb, le-ltb}
-use Rattle.rules.specs.Octets.{Bytes, if_then_else_, byteAt, part, lay, closed}
+use Rattle.rules.specs.Octets.{Bytes, if_then_else_, byteAt, part, lay}
 use Rattle.rules.specs.Lists.{every}
 use Rattle.rules.specs.Outcome.{passes, refuses}
-use Rattle.rules.specs.Listing.{pathsBytes}
-use Rattle.rules.specs.Program.{lineEnd, Line, linesFrom, linesOf, Said, configures, excludes, names, other, decimalAfter, digit, decimalSaid, lineSaid, isOther, linesJudged, configuredBy, excludedBy, namedBy, digitsFrom, decimal, newline, printedPaths}
+use Rattle.rules.specs.Program.{lineEnd, Line, linesFrom, linesOf, Said, configures, excludes, names, other, decimalAfter, digit, decimalSaid, lineSaid, isOther, linesJudged, configuredBy, excludedBy, namedBy, digitsFrom, decimal}
 use Rattle.rules.specs.Laws.Tests.{by-test}
 use Rattle.rules.specs.Laws.Octets.{lay-nil, lay-lay}
 

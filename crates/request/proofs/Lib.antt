@@ -1,0 +1,3 @@
+-- What the proofs of the request text share.
+pub mod Turns
+pub mod Entered
