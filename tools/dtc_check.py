@@ -1,10 +1,13 @@
 #!/usr/bin/env python3
 """dtc_check.py: asks dtc about what the case programs print. Run from the root of the repository; needs dtc.
 - Of each tree that dtc built (trees/*.dtb), the node count in dtc's own listing is the one in crates/reader_cases/stdout.
-- Of each finished blob in crates/writer_cases/stdout (lines `blob LABEL HEX`), dtc reads it without complaint.
+- Of each blob that the script of crates/writer_cases finishes and that is a tree by 01's reader, dtc reads it without complaint.
 - Of each finished blob in crates/again_cases/stdout, dtc's listing is that of the blob that was read: of the tree in trees/ whose
   name is the label, or of the hand-made one in crates/again_cases/stdin if dtc reads that."""
 import os, re, struct, subprocess, sys
+sys.path.insert(0, os.path.dirname(os.path.abspath(__file__)))
+import reading
+import writer_cases
 
 faults = 0
 
@@ -25,9 +28,14 @@ for name, count in sorted(counts.items()):
     if got != count:
         print(f"{name}: dtc lists {got} nodes, the reader counts {count}")
         faults += 1
-blobs = [l.split()[1:] for l in lines("writer_cases") if l.startswith("blob ")]
-for label, text in blobs:
-    got = dtc(bytes.fromhex(text))
+# of the blobs that the writer's script finishes, those that are trees; the program has told of each
+blobs = [(label, data) for label, data in writer_cases.finished() if reading.read(data)[0] == "nodes"]
+told = [l.split() for l in lines("writer_cases") if l.startswith("finish 0 ")]
+for label, data in blobs:
+    if str(len(data)) not in [t[3] for t in told]:
+        print(f"{label}: the program tells of no blob of {len(data)} bytes")
+        faults += 1
+    got = dtc(data, "-q")
     if got.returncode or got.stderr:
         print(f"{label}: dtc says {got.stderr.decode().strip() or got.returncode}")
         faults += 1
