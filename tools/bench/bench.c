@@ -6,8 +6,8 @@
 #include <stdlib.h>
 #include <time.h>
 
-/* crates/exports: the number of the refusal, or 0; `value` is the node count, or the place. */
-extern uint32_t dhaureshin_read(const uint8_t *blob, size_t len, uint32_t *work, size_t words, uint64_t *value);
+/* made by tools/bench/run: the node count, or 0 for a refusal */
+extern uint64_t dhaureshin_read(const uint8_t *blob, size_t len, uint32_t *work, size_t words);
 
 static uint32_t work[16384];
 
@@ -37,12 +37,11 @@ int main(int argc, char **argv)
 		static uint8_t blob[1 << 21] __attribute__((aligned(8)));
 		size_t len = fread(blob, 1, sizeof blob, f);
 		fclose(f);
-		uint64_t value = 0;
-		uint32_t number = 0;
+		uint64_t nodes = 0;
 		int said = 0;
 		for (int i = 0; i < runs; i++) {
 			double a = now();
-			number = dhaureshin_read(blob, len, work, 16384, &value);
+			nodes = dhaureshin_read(blob, len, work, 16384);
 			double b = now();
 			said = fdt_check_full(blob, len);
 			double c = now();
@@ -51,8 +50,8 @@ int main(int argc, char **argv)
 		}
 		qsort(ours, runs, sizeof *ours, order);
 		qsort(theirs, runs, sizeof *theirs, order);
-		printf("%s: %zu bytes, answer %u %llu, %.1f us; fdt_check_full %d, %.1f us; ratio %.2f\n", argv[k], len, number,
-		       (unsigned long long)value, ours[runs / 2], said, theirs[runs / 2], ours[runs / 2] / theirs[runs / 2]);
+		printf("%s: %zu bytes, %llu nodes, %.1f us; fdt_check_full %d, %.1f us; ratio %.2f\n", argv[k], len,
+		       (unsigned long long)nodes, ours[runs / 2], said, theirs[runs / 2], ours[runs / 2] / theirs[runs / 2]);
 	}
 	return 0;
 }
