@@ -6,6 +6,7 @@
   name is the label, or of the hand-made one in crates/again_cases/stdin if dtc reads that."""
 import os, re, struct, subprocess, sys
 sys.path.insert(0, os.path.dirname(os.path.abspath(__file__)))
+import again_cases
 import reading
 import writer_cases
 
@@ -68,5 +69,18 @@ for label, text in again:
     if (listed.returncode, listed.stdout) != (relisted.returncode, relisted.stdout):
         print(f"{label}: written again, dtc lists it otherwise")
         faults += 1
+# trees whose second blob is too long to be printed: the model's bytes, which have the length and the events that the program tells
+shown = {label for label, _ in again}
+for l in lines("again_cases"):
+    m = re.match(r"(\S+\.dtb): nodes \d+, again (\d+), events (\w+) \3, same$", l)
+    if m and m.group(1) not in shown:
+        with open(os.path.join("trees", m.group(1)), "rb") as f:
+            first = f.read()
+        says = again_cases.events(first)
+        second = again_cases.encode(again_cases.reservations(first), struct.unpack_from(">I", first, 28)[0], says, again_cases.ROOM)
+        if (len(second), "%08x" % again_cases.digest(says)) != (int(m.group(2)), m.group(3)) or dtc(first, "-q").stdout != dtc(second, "-q").stdout:
+            print(f"{m.group(1)}: written again, dtc lists it otherwise")
+            faults += 1
+        trees += 1
 print(f"dtc_check: {len(counts)} trees counted, {len(blobs)} written blobs read, {trees} trees and {others} other blobs written again, {faults} faults")
 sys.exit(1 if faults else 0)
