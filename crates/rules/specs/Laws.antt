@@ -38,3 +38,4 @@ pub mod Program
 pub mod Table
 pub mod Tabled
 pub mod TabledRead
+pub mod Kept

@@ -17,6 +17,7 @@ pub mod References
 pub mod Listing
 pub mod Copy
 pub mod Derivation
+pub mod Space
 pub mod Program
 pub mod Withheld
 pub mod Demands

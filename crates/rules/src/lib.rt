@@ -24,6 +24,15 @@ pub const NODE_WORDS: usize = 4;
 
 pub const PROGRAM_CEILING: usize = 65536;
 
+// The parts of the work space behind the node table, as specs/Space.antt names them.
+pub const MARKS_AT: usize = 8192;
+
+pub const LIST_AT: usize = 10240;
+
+pub const STACK_AT: usize = 12288;
+
+pub const NAMES_AT: usize = 14336;
+
 // The header and the tokens of DTSpec 5.2 and 5.4.
 pub const FDT_MAGIC: u32 = 0xd00dfeed;
 

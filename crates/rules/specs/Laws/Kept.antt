@@ -1,0 +1,145 @@
+-- A work space that keeps the node table of an accepted blob, whatever is written behind it: what the functions over the table may
+-- count on, and that writing behind the table takes nothing of it away.
+use mathlib.Core.Path.{_≡_, refl, sym, ap, _∙_}
+use mathlib.Core.List.{List}
+use Prim.Native.Nat.{ℕ, zero, suc, _+_, _*_, _≤_, _<_}
+use native.Mathlib.Omega.{arith}
+use lib.ListN.{length, getD, length-take, length-drop}
+use lib.Seq.{ext-getD, getD-take}
+use borrow.Author.Tests.{le-ltb}
+use Rattle.rules.specs.Ceilings.{blobCeiling, nodeCeiling, nodeWords, workWords}
+use Rattle.rules.specs.Octets.{Bytes, put, lay}
+use Rattle.rules.specs.Outcome.{passes}
+use Rattle.rules.specs.Blob.{Block, headerJudged, blockIn}
+use Rattle.rules.specs.Tree.{Tree, nowhere, numbersFrom}
+use Rattle.rules.specs.Reader.{treeRead, blobJudged, rowsOf, spaceOf, readWork}
+use Rattle.rules.specs.References.{lookup}
+use Rattle.rules.specs.Space.{tableWords, marksAt, listAt, stackAt, namesAt}
+use Rattle.rules.specs.Laws.Tests.{by-le}
+use Rattle.rules.specs.Laws.Octets.{put-before, length-lay, lay-past}
+use Rattle.rules.specs.Laws.Blob.{header-inside}
+use Rattle.rules.specs.Laws.Reader.{space-length, table-fits}
+use Rattle.rules.specs.Laws.Paths.{Formed}
+use Rattle.rules.specs.Laws.Tabled.{cell, nodeIn, treeIn, tree-length, node-in, phandleIn, phandlesFrom, lookIn}
+use Rattle.rules.specs.Laws.TabledRead.{tree-read, look-read, formed-in}
+use Rattle.rules.specs.Laws.Table.{rows-length, read-table}
+use Rattle.rules.specs.Laws.Formed.{accepted}
+
+-- ---- the parts follow one another, inside the work space
+
+pub marks-behind : tableWords ≤ marksAt
+unfolding marksAt
+marks-behind = omega arith
+
+pub list-behind : marksAt + nodeCeiling ≤ listAt
+unfolding listAt
+list-behind = omega arith
+
+pub stack-behind : listAt + nodeCeiling ≤ stackAt
+unfolding stackAt
+stack-behind = omega arith
+
+pub names-behind : stackAt + nodeCeiling ≤ namesAt
+unfolding namesAt
+names-behind = omega arith
+
+pub names-inside : namesAt ≤ workWords
+unfolding namesAt stackAt listAt marksAt tableWords nodeCeiling nodeWords workWords
+names-inside = omega arith
+
+-- a row of a node is inside the table
+pub row-inside : (count i k : ℕ) → count ≤ nodeCeiling → i < count → k < 4 → 4 * i + k < tableWords
+unfolding tableWords nodeWords
+row-inside count i k h g l = omega arith
+
+-- ---- what is kept
+
+pub record Kept (b : Block) (ws : List ℕ) (count : ℕ) : Type 0 where
+  pub formed : Formed (treeIn b ws count)
+  pub look : (w : ℕ) → lookIn ws count w ≡ lookup (treeIn b ws count) w
+  pub few : count ≤ nodeCeiling
+  pub some : 0 < count
+  pub small : length (b .structure) ≤ blobCeiling
+  pub brief : length (b .strings) ≤ blobCeiling
+  pub room : workWords ≤ length ws
+
+-- the same table
+abbrev pub Alike : (ws vs : List ℕ) → Type 0
+Alike ws vs = (i : ℕ) → i < tableWords → getD vs i 0 ≡ getD ws i 0
+
+module _ (b : Block) (ws vs : List ℕ) (count : ℕ) (few : count ≤ nodeCeiling) (s : Alike ws vs) where
+  cell-alike : (i k : ℕ) → i < count → k < 4 → cell vs i k ≡ cell ws i k
+  cell-alike i k h l = s (4 * i + k) (row-inside count i k few h l)
+
+  node-alike : (i : ℕ) → i < count → nodeIn b vs i ≡ nodeIn b ws i
+  node-alike i h = rw (cell-alike i 0 h (omega arith), cell-alike i 1 h (omega arith))
+
+  pub tree-alike : treeIn b vs count ≡ treeIn b ws count
+  tree-alike =
+      ext-getD nowhere (treeIn b vs count) (treeIn b ws count) (tree-length b vs count 0 ∙ sym (tree-length b ws count 0))
+      (λ i h. let g : i < count = omega (arith, tree-length b vs count 0) in node-in b vs count i g ∙ node-alike i g ∙ sym (node-in b ws count i g))
+
+  phandle-alike : (i : ℕ) → i < count → phandleIn vs i ≡ phandleIn ws i
+  phandle-alike i h = rw (cell-alike i 2 h (omega arith), cell-alike i 3 h (omega arith))
+
+  numbers-alike : (from n : ℕ) → from + n ≤ count → phandlesFrom vs from n ≡ phandlesFrom ws from n
+  unfolding phandlesFrom numbersFrom
+  numbers-alike from zero h = refl
+  numbers-alike from (suc n) h = rw (phandle-alike from (omega arith), numbers-alike (suc from) n (omega arith))
+
+  pub look-alike : (w : ℕ) → lookIn vs count w ≡ lookIn ws count w
+  unfolding lookIn
+  look-alike w = rw (numbers-alike 0 count (omega arith))
+
+  pub kept-alike : length vs ≡ length ws → Kept b ws count → Kept b vs count
+  kept-alike l k = record {
+    formed = rw tree-alike (k .formed);
+    look = λ w. rw (tree-alike, look-alike w) (k .look w);
+    few = few;
+    some = k .some;
+    small = k .small;
+    brief = k .brief;
+    room = omega (arith, k .room, l);
+  }
+
+-- what stands in front of bytes laid
+pub lay-before : (ws : List ℕ) (at : ℕ) (xs : List ℕ) (z i : ℕ) → i < at → getD (lay ws at xs) i z ≡ getD ws i z
+unfolding lay
+lay-before ws at xs z i h = by-le (length ws) at
+    (λ l. ap (λ (vs : List ℕ). getD vs i z) (lay-past ws at xs l))
+    (λ l. getD-take (length ws) (put ws at xs) i z (omega arith) ∙ put-before ws at xs i z h (omega arith))
+
+-- writing behind the table leaves the table
+pub lay-alike : (ws : List ℕ) (at : ℕ) (xs : List ℕ) → tableWords ≤ at → Alike ws (lay ws at xs)
+lay-alike ws at xs h i l = lay-before ws at xs 0 i (omega arith)
+
+pub kept-lay : (b : Block) (ws : List ℕ) (count at : ℕ) (xs : List ℕ) → tableWords ≤ at → Kept b ws count → Kept b (lay ws at xs) count
+kept-lay b ws count at xs h k = kept-alike b ws (lay ws at xs) count (k .few) (lay-alike ws at xs h) (length-lay ws at xs) k
+
+-- ---- the table of an accepted blob
+
+structure-small : (host : Bytes) → headerJudged host ≡ passes → length (blockIn host .structure) ≤ blobCeiling
+unfolding blockIn
+structure-small host h = let i = header-inside host h in simp (length-take, length-drop) (omega (arith, i .apart, i .last, i .small, i .total))
+
+strings-small : (host : Bytes) → headerJudged host ≡ passes → length (blockIn host .strings) ≤ blobCeiling
+unfolding blockIn
+strings-small host h = let i = header-inside host h in simp (length-take, length-drop) (omega (arith, i .apart, i .last, i .small, i .total))
+
+room : (host : Bytes) (work : List ℕ) → blobJudged host ≡ passes → workWords ≤ length work → workWords ≤ length (readWork host work)
+unfolding readWork
+room host work h l =
+    let e : readWork host work ≡ spaceOf (rowsOf (treeRead host)) work = rw (le-ltb (length work) workWords l, h) in
+    let n = read-table host h .few in
+    omega (arith, ap length e, space-length (rowsOf (treeRead host)) work (omega (arith, n, table-fits, rows-length (treeRead host))) l, l)
+
+pub kept-read : (host : Bytes) (work : List ℕ) → blobJudged host ≡ passes → workWords ≤ length work → Kept (blockIn host) (readWork host work) (length (treeRead host))
+kept-read host work h l = record {
+  formed = formed-in host work h l;
+  look = λ w. look-read host work h l w ∙ ap (λ (t : Tree). lookup t w) (sym (tree-read host work h l));
+  few = read-table host h .few;
+  some = read-table host h .rooted .some;
+  small = structure-small host (accepted host h .header);
+  brief = strings-small host (accepted host h .header);
+  room = room host work h l;
+}

@@ -1,0 +1,24 @@
+-- The work space of a derivation behind the node table: a table of named offsets, in words. 01 fixes the node table and what is left
+-- at return; in between these parts hold marks, the list and its order. They follow one another and do not overlap.
+use Prim.Native.Nat.{ℕ, _+_, _*_}
+use Rattle.rules.specs.Ceilings.{nodeCeiling, nodeWords}
+
+-- the node table's words
+unfoldable pub tableWords : ℕ
+tableWords = nodeCeiling * nodeWords
+
+-- a word for each node: whether it is reached, and later whether it is copied
+unfoldable pub marksAt : ℕ
+marksAt = tableWords
+
+-- the nodes reached, and later the nodes listed, in order
+unfoldable pub listAt : ℕ
+listAt = marksAt + nodeCeiling
+
+-- the start nodes in byte order of path, which become the work that is left to do, the last on top
+unfoldable pub stackAt : ℕ
+stackAt = listAt + nodeCeiling
+
+-- what is left, up to the end of the work space, is for the names that a copy has used
+unfoldable pub namesAt : ℕ
+namesAt = stackAt + nodeCeiling
