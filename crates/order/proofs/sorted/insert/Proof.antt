@@ -19,7 +19,7 @@ abbrev μ-loop : tie.MeasureT-loop
 μ-loop work₀ n at x i₀ work i = i
 
 loop-holds : tie.Need-loop-holds Inv-loop μ-loop
-loop-holds c = (c .before .pre .0, omega arith, refl, moved-start (now (c .before .args .work)) (c .before .args .n))
+loop-holds c = (omega (arith, c .before .pre .0), omega arith, refl, moved-start (now (c .before .args .work)) (c .before .args .n))
 
 sub-node-of : tie.Need-sub-node-of Inv-loop μ-loop
 sub-node-of c = search needs
