@@ -24,7 +24,7 @@ pub enum Named {
 }
 
 // Whether node i is one of the first n of these.
-fn one_of(nodes: &[u32], n: usize, i: usize) -> bool
+pub fn one_of(nodes: &[u32], n: usize, i: usize) -> bool
     ensures { λ r. ⌜ r ≡ oneOf i (take n (now (nodes .entry))) ⌝ }
 {
     let mut k = 0;
