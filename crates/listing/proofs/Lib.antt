@@ -1,2 +1,5 @@
 -- The laws that the proofs of this crate cite.
 pub mod Fresh
+pub mod Parts
+pub mod Notes
+pub mod Visits
