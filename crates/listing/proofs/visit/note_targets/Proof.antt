@@ -11,15 +11,15 @@ use Rattle.references.specs.Rows.{meaning}
 use Rattle.references.specs.Cells.{blockOf}
 use Rattle.listing.specs.State.{Stacks}
 use Rattle.listing.proofs.Notes.{stacks-refl}
-use Rattle.listing.proofs.Visits.{rest, scan-stop, scan-ahead, scan-target, scan-next}
+use Rattle.listing.proofs.Visits.{targetsFrom, scan-stop, scan-ahead, scan-target, scan-next}
 use borrow.Author.Needs.{needs}
 use Rattle.listing.proofs.visit.note_targets.Statement.{statement}
 use Rattle.listing.proofs.visit.note_targets.Tie as tie
 
 abbrev Inv-loop : tie.InvT-loop
 Inv-loop structure strings place work₀ count value c e₀ i₀ work e i =
-    Stacks count work₀ (e₀ .list) (e₀ .stack) (rest (blockOf place structure strings) work₀ count (e₀ .list) (e₀ .stack) (meaning c) value 0)
-    work (e .list) (e .stack) (rest (blockOf place structure strings) work₀ count (e₀ .list) (e₀ .stack) (meaning c) value i)
+    Stacks count work₀ (e₀ .list) (e₀ .stack) (targetsFrom (blockOf place structure strings) work₀ count (meaning c) value 0)
+    work (e .list) (e .stack) (targetsFrom (blockOf place structure strings) work₀ count (meaning c) value i)
 
 abbrev μ-loop : tie.MeasureT-loop
 μ-loop structure strings place work₀ count value c e₀ i₀ work e i = length value / 4 - i
