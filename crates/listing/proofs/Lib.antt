@@ -3,3 +3,4 @@ pub mod Fresh
 pub mod Parts
 pub mod Notes
 pub mod Visits
+pub mod Walks
