@@ -4,3 +4,4 @@ pub mod Parts
 pub mod Notes
 pub mod Visits
 pub mod Walks
+pub mod Gained
