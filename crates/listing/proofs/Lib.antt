@@ -5,3 +5,4 @@ pub mod Notes
 pub mod Visits
 pub mod Walks
 pub mod Gained
+pub mod Sieved
