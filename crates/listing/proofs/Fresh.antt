@@ -14,7 +14,7 @@ use Rattle.rules.specs.Laws.Lists.{oneOf-mem, mem-oneOf, fresh-known, fresh-new
 abbrev pub Alike : (a b : List ℕ) → Type 0
 Alike a b = (x : ℕ) → oneOf x a ≡ oneOf x b
 
-alike-by : (a b : List ℕ) → ((x : ℕ) → x ∈ a → x ∈ b) → ((x : ℕ) → x ∈ b → x ∈ a) → Alike a b
+pub alike-by : (a b : List ℕ) → ((x : ℕ) → x ∈ a → x ∈ b) → ((x : ℕ) → x ∈ b → x ∈ a) → Alike a b
 alike-by a b f g x = both-ways (oneOf x a) (oneOf x b) (λ e. mem-oneOf (f x (oneOf-mem x a e))) (λ e. mem-oneOf (g x (oneOf-mem x b e)))
 
 turned : (a b : List ℕ) (x : ℕ) → x ∈ a ++ b → x ∈ b ++ a

@@ -6,3 +6,4 @@ pub mod Visits
 pub mod Walks
 pub mod Gained
 pub mod Sieved
+pub mod Joined
