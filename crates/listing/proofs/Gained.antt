@@ -2,7 +2,7 @@
 use mathlib.Core.Path.{_≡_, refl, sym, ap, _∙_}
 use mathlib.Core.Bool.{Bool, true, false}
 use mathlib.Core.List.{List, [], _∷_, _++_, append-assoc, append-nil, List·Memᴰ·not-nil}
-use Prim.Native.Nat.{ℕ, zero, suc, _+_, _-_, _≤_, _<_}
+use Prim.Native.Nat.{ℕ, _+_, _≤_, _<_}
 use native.Mathlib.Omega.{arith}
 use native.Mathlib.Numerals.{add-one}
 use lib.Dec.{eqb}
@@ -18,14 +18,13 @@ use Rattle.rules.specs.Listing.{_∈_, gather}
 use Rattle.rules.specs.Space.{marksAt, stackAt}
 use Rattle.rules.specs.Laws.Tests.{by-test}
 use Rattle.rules.specs.Laws.Octets.{lay-one-same, lay-one-other}
-use Rattle.rules.specs.Laws.Lists.{Distinct, none, keep-yes, keep-no, mem-at}
+use Rattle.rules.specs.Laws.Lists.{none, keep-yes, keep-no, mem-at}
 use Rattle.rules.specs.Laws.Tabled.{treeIn}
-use Rattle.rules.specs.Laws.Kept.{tree-alike, marks-behind, list-behind, stack-behind, names-behind, names-inside}
-use Rattle.listing.specs.State.{listIn, stackIn, entered, mark, Apart, Marked, Gains}
+use Rattle.rules.specs.Laws.Kept.{tree-alike, list-behind, stack-behind, names-behind, names-inside}
+use Rattle.listing.specs.State.{listIn, stackIn, Apart, Marked, Gains}
 use Rattle.listing.specs.Given.{belowIn, Gathers}
-use Rattle.listing.proofs.Fresh.{fresh-none, fresh-append, gather-none, gather-turn}
-use Rattle.listing.proofs.Parts.{apart-refl, apart-trans, apart-mark, stack-mark, stack-length, marks-at, stack-at}
-use Rattle.listing.proofs.Notes.{known, unknown, gains-new, gains-known}
+use Rattle.listing.proofs.Fresh.{fresh-none, fresh-append, gather-turn}
+use Rattle.listing.proofs.Parts.{apart-refl, apart-trans, apart-mark, stack-mark, stack-length}
 
 pub gains-refl : (count : ℕ) (ws : List ℕ) (n : ℕ) (ts : List ℕ) → Marked ws count n → Gains count ws n ts ws n ts
 gains-refl count ws n ts m = record { apart = apart-refl ws; marked = m; list = refl; stack = λ s. refl }
@@ -165,8 +164,8 @@ module _ (count : ℕ) (ws : List ℕ) (n s p : ℕ) (low : s ≤ nodeCeiling) (
         let y : x ≡ getD (stackIn ws s) k 0 = start-here room (a .stack s) h x e in
         let f : ℕ → Bool = below (treeIn b ws count) p in
         let g : belowFrom b ws count s p k ≡ keep f (getD (stackIn ws s) k 0 ∷ []) ++ keep f (drop (k + 1) (stackIn ws s)) =
-            ap (keep f) (drop-cons (stackIn ws s) k 0 (omega (arith, stack-length ws room s low)) ∙ ap (λ (j : ℕ). getD (stackIn ws s) k 0 ∷ drop j (stackIn ws s)) (sym (add-one k)))
-            ∙ keep-append f (getD (stackIn ws s) k 0 ∷ []) (drop (k + 1) (stackIn ws s)) in
+        ap (keep f) (drop-cons (stackIn ws s) k 0 (omega (arith, stack-length ws room s low)) ∙ ap (λ (j : ℕ). getD (stackIn ws s) k 0 ∷ drop j (stackIn ws s)) (sym (add-one k)))
+        ∙ keep-append f (getD (stackIn ws s) k 0 ∷ []) (drop (k + 1) (stackIn ws s)) in
         gains-trans a (rw g (gains-more count vs m (keep f (getD (stackIn ws s) k 0 ∷ [])) us q (rw (t, y) at d) (keep f (drop (k + 1) (stackIn ws s)))))
 
     pub below-all : s ≤ k → Gains count ws n (belowIn b ws count s p) vs m []

@@ -1,20 +1,20 @@
 -- From the start nodes to the list: what each part hands to the next.
 use mathlib.Core.Path.{_≡_, refl, sym, ap, _∙_}
-use mathlib.Core.Logic.{_⊎_, inl, inr}
-use mathlib.Core.Bool.{Bool, true, false, not, _&&_}
+use mathlib.Core.Logic.{inl, inr}
+use mathlib.Core.Bool.{not, _&&_}
 use mathlib.Core.List.{List, [], _∷_, _++_, append-nil, reverse, List·Memᴰ·head, List·Memᴰ·tail, List·Memᴰ·not-nil, List·Memᴰ·cases-cons, Memᴰ·cast}
-use Prim.Native.Nat.{ℕ, zero, suc, _+_, _-_, _≤_, _<_}
+use Prim.Native.Nat.{ℕ, suc, _+_, _-_, _≤_, _<_}
 use native.Mathlib.Omega.{arith}
 use lib.Dec.{eqb}
-use lib.ListN.{length, getD, take, drop}
+use lib.ListN.{length, take, drop}
 use Rattle.rules.specs.Ceilings.{nodeCeiling, workWords}
-use Rattle.rules.specs.Octets.{Bytes, put, lay}
+use Rattle.rules.specs.Octets.{Bytes, put}
 use Rattle.rules.specs.Blob.{Block}
-use Rattle.rules.specs.Lists.{oneOf, keep, sort, fresh}
+use Rattle.rules.specs.Lists.{keep, sort, fresh}
 use Rattle.rules.specs.Tree.{Tree, frame, below, path}
 use Rattle.rules.specs.References.{edition1, targets}
 use Rattle.rules.specs.Listing.{_∈_, nodesBelow, gather, givenNodes, starts, work, found, reachedList, within, listed}
-use Rattle.rules.specs.Space.{listAt, stackAt}
+use Rattle.rules.specs.Space.{stackAt}
 use Rattle.rules.specs.Laws.Octets.{length-lay, lay-put, part-put, drop-put}
 use Rattle.rules.specs.Laws.Lists.{Distinct, none, more, not-oneOf, fresh-new}
 use Rattle.rules.specs.Laws.Tabled.{treeIn, tree-length}
@@ -22,14 +22,14 @@ use Rattle.rules.specs.Laws.Listing.{starts-of, of-starts}
 use Rattle.rules.specs.Laws.Kept.{Kept, lay-alike, tree-alike, marks-behind, list-behind, stack-behind, names-behind, names-inside}
 use Rattle.order.specs.Starts.{Asked, Started}
 use Rattle.order.specs.Laws.{insert-length, start-small, below-starts}
-use Rattle.listing.specs.State.{listIn, stackIn, Apart, Marked, Piled, Gains}
+use Rattle.listing.specs.State.{listIn, stackIn, Apart, Piled, Gains}
 use Rattle.listing.specs.Given.{belowIn, Gathers}
-use Rattle.listing.specs.Walk.{workFrom, Walked}
+use Rattle.listing.specs.Walk.{Walked}
 use Rattle.listing.specs.Sift.{spared, Sifted}
-use Rattle.listing.specs.Lists.{Stands, Reaches, Lists}
+use Rattle.listing.specs.Lists.{Reaches, Lists}
 use Rattle.listing.proofs.Fresh.{Alike, alike-by, gather-none, work-same}
 use Rattle.listing.proofs.Parts.{apart-trans, apart-kept, list-length}
-use Rattle.listing.proofs.Gained.{gains-list, below-alike}
+use Rattle.listing.proofs.Gained.{gains-list}
 
 -- ---- lists
 

@@ -2,8 +2,8 @@
 use mathlib.Core.Path.{_≡_, refl, sym, ap, _∙_}
 use mathlib.Core.Logic.{_⊎_, inl, inr}
 use mathlib.Core.Bool.{Bool, true, false}
-use mathlib.Core.List.{List, [], _∷_, _++_, append-assoc, append-nil, List·Memᴰ·head, List·Memᴰ·not-nil, List·Memᴰ·cases-cons, List·Memᴰ·eq-of-singleton, Memᴰ·cast, Memᴰ·append-left, Memᴰ·append-right, List·Memᴰ·append-cases}
-use Prim.Native.Nat.{ℕ, suc, _+_, _-_, _≤_, _<_}
+use mathlib.Core.List.{List, [], _∷_, _++_, append-assoc, append-nil, List·Memᴰ·head, List·Memᴰ·not-nil, List·Memᴰ·eq-of-singleton, Memᴰ·cast, Memᴰ·append-left, Memᴰ·append-right, List·Memᴰ·append-cases}
+use Prim.Native.Nat.{ℕ, _+_, _≤_, _<_}
 use native.Mathlib.Omega.{arith}
 use lib.Dec.{eqb}
 use lib.ListN.{length, getD, length-append}
@@ -12,14 +12,14 @@ use Rattle.rules.specs.Ceilings.{nodeCeiling, workWords}
 use Rattle.rules.specs.Octets.{lay}
 use Rattle.rules.specs.Lists.{oneOf, fresh}
 use Rattle.rules.specs.Listing.{_∈_}
-use Rattle.rules.specs.Space.{marksAt, listAt, stackAt}
+use Rattle.rules.specs.Space.{marksAt, stackAt}
 use Rattle.rules.specs.Laws.Tests.{by-test, both-ways}
 use Rattle.rules.specs.Laws.Octets.{length-lay, lay-one-same, lay-one-other}
 use Rattle.rules.specs.Laws.Lists.{Distinct, none, more, distinct-append, distinct-below, oneOf-mem, mem-oneOf, oneOf-not, fresh-known}
 use Rattle.rules.specs.Laws.Kept.{list-behind, stack-behind, names-behind, names-inside}
 use Rattle.listing.specs.State.{listIn, stackIn, entered, mark, Apart, Marked, Piled, Gains, Stacks}
 use Rattle.listing.proofs.Fresh.{fresh-none, fresh-last, fresh-append}
-use Rattle.listing.proofs.Parts.{apart-refl, apart-trans, list-length, list-mark, stack-mark, apart-mark, list-list, stack-list, marks-list, apart-list, list-stack, stack-stack, marks-stack, apart-stack, stack-last}
+use Rattle.listing.proofs.Parts.{apart-refl, apart-trans, list-length, list-mark, stack-mark, apart-mark, list-list, stack-list, marks-list, apart-list, list-stack, stack-stack, marks-stack, apart-stack}
 
 -- ---- one more number
 
@@ -65,8 +65,12 @@ module _ (ws : List ℕ) (count n : ℕ) (m : Marked ws count n) where
   module _ (x : ℕ) (h : x < count) (new : oneOf x there ≡ false) where
     pub shorter : n + 1 ≤ count
     shorter =
-        omega (arith, distinct-below (there ++ (x ∷ [])) count (last-distinct there x (m .once) new) (last-small there x count (m .small) h),
-        length-append there (x ∷ []), list-length ws (m .room) n (omega (arith, m .short, m .few)))
+        omega (
+          arith,
+          distinct-below (there ++ (x ∷ [])) count (last-distinct there x (m .once) new) (last-small there x count (m .small) h),
+          length-append there (x ∷ []),
+          list-length ws (m .room) n (omega (arith, m .short, m .few)),
+        )
 
     inside : x < nodeCeiling
     inside = omega (arith, m .few)

@@ -1,16 +1,16 @@
 -- A word put into the work space behind the node table: what it leaves of the list, of the stack and of the marks.
-use mathlib.Core.Path.{_≡_, refl, sym, ap, _∙_}
+use mathlib.Core.Path.{_≡_, refl, ap, _∙_}
 use mathlib.Core.List.{List, [], _∷_, _++_}
-use Prim.Native.Nat.{ℕ, suc, _+_, _-_, _≤_, _<_}
+use Prim.Native.Nat.{ℕ, _+_, _-_, _≤_, _<_}
 use native.Mathlib.Omega.{arith}
 use native.Mathlib.Numerals.{add-one}
-use lib.ListN.{length, getD, take, drop, set, length-take, length-drop}
+use lib.ListN.{length, getD, take, drop, set, length-drop}
 use lib.Seq.{drop-set-lt, drop-set-add, take-set-le, take-suc-set, take-suc, getD-drop, length-take-le}
 use Rattle.rules.specs.Ceilings.{nodeCeiling, nodeWords, workWords}
 use Rattle.rules.specs.Octets.{lay}
-use Rattle.rules.specs.Space.{tableWords, marksAt, listAt, stackAt, namesAt}
-use Rattle.rules.specs.Laws.Octets.{length-lay, lay-one, lay-one-same, lay-one-other}
-use Rattle.rules.specs.Laws.Kept.{Alike, lay-alike, kept-alike, Kept, marks-behind, list-behind, stack-behind, names-behind, names-inside}
+use Rattle.rules.specs.Space.{tableWords, marksAt, listAt, stackAt}
+use Rattle.rules.specs.Laws.Octets.{length-lay, lay-one, lay-one-other}
+use Rattle.rules.specs.Laws.Kept.{lay-alike, kept-alike, Kept, marks-behind, list-behind, stack-behind, names-behind, names-inside}
 use Rattle.rules.specs.Blob.{Block}
 use Rattle.listing.specs.State.{listIn, stackIn, Apart}
 

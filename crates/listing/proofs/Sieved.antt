@@ -2,7 +2,7 @@
 use mathlib.Core.Path.{_≡_, refl, sym, ap, _∙_}
 use mathlib.Core.Bool.{Bool, true, false, not, _&&_}
 use mathlib.Core.List.{List, [], _∷_, _++_, append-assoc, append-nil}
-use Prim.Native.Nat.{ℕ, zero, suc, _+_, _-_, _≤_, _<_}
+use Prim.Native.Nat.{ℕ, suc, _+_, _≤_, _<_}
 use native.Mathlib.Omega.{arith}
 use native.Mathlib.Numerals.{add-one}
 use lib.Dec.{eqb}
@@ -20,7 +20,7 @@ use Rattle.rules.specs.Laws.Octets.{lay-one-other}
 use Rattle.rules.specs.Laws.Lists.{keep-yes, keep-no}
 use Rattle.rules.specs.Laws.Tabled.{treeIn}
 use Rattle.rules.specs.Laws.Kept.{tree-alike}
-use Rattle.listing.specs.State.{listIn, Apart}
+use Rattle.listing.specs.State.{listIn}
 use Rattle.listing.specs.Sift.{spared, Sifts, Sifted}
 use Rattle.listing.proofs.Parts.{apart-refl, apart-trans, list-length, list-list, apart-list}
 

@@ -1,9 +1,9 @@
 -- A visit: the scan of a value, word by word, and the properties of a node, token by token.
 use mathlib.Core.Path.{_≡_, refl, sym, ap, _∙_}
-use mathlib.Core.Bool.{Bool, true, false}
-use mathlib.Core.List.{List, [], _∷_, _++_, map, List·Memᴰ·head, List·Memᴰ·not-nil, Memᴰ·cast}
-use mathlib.Core.Option.{Option, none, some}
-use Prim.Native.Nat.{ℕ, zero, suc, _+_, _-_, _*_, _/_, _%_, _≤_, _<_}
+use mathlib.Core.Bool.{true, false}
+use mathlib.Core.List.{List, [], _∷_, map, List·Memᴰ·head, List·Memᴰ·not-nil}
+use mathlib.Core.Option.{Option, some}
+use Prim.Native.Nat.{ℕ, _+_, _/_, _%_, _≤_, _<_}
 use Prim.Native.String.{String}
 use native.Mathlib.Omega.{arith}
 use lib.Dec.{eqb}
@@ -12,9 +12,9 @@ use Rattle.rules.specs.Ceilings.{nodeCeiling}
 use Rattle.rules.specs.Octets.{Bytes, part}
 use Rattle.rules.specs.Blob.{Block}
 use Rattle.rules.specs.Tokens.{tokenAt}
-use Rattle.rules.specs.Events.{Property, Event, stringAt, saying}
+use Rattle.rules.specs.Events.{Property, stringAt}
 use Rattle.rules.specs.Tree.{Node, Tree, node, numbersFrom, propsOf}
-use Rattle.rules.specs.References.{Rules, Reference, isReference, cellRows, cellsIn, edition1, lookup, cellCount, target, scan, scanFrom, referencesOf, targetsIn, targets}
+use Rattle.rules.specs.References.{Rules, Reference, isReference, cellRows, cellsIn, edition1, lookup, cellCount, target, scan, referencesOf, targetsIn, targets}
 use Rattle.rules.specs.declared.Token.{Token}
 use Rattle.rules.specs.declared.Token.the-variants as token
 use Rattle.rules.specs.declared.Kind.{Kind}

@@ -1,19 +1,17 @@
 -- The work list, turn by turn.
 use mathlib.Core.Path.{_≡_, refl, sym, ap, _∙_}
 use mathlib.Core.List.{List, [], _∷_, _++_, append-nil, reverse, List·Memᴰ·head, Memᴰ·append-left, Memᴰ·append-right}
-use Prim.Native.Nat.{ℕ, zero, suc, _+_, _-_, _≤_, _<_}
+use Prim.Native.Nat.{ℕ, suc, _+_, _-_, _≤_, _<_}
 use native.Mathlib.Omega.{arith}
-use lib.ListN.{length, getD}
-use Rattle.rules.specs.Ceilings.{nodeCeiling}
+use lib.ListN.{getD}
 use Rattle.rules.specs.Blob.{Block}
 use Rattle.rules.specs.Lists.{fresh}
-use Rattle.rules.specs.Tree.{Tree}
 use Rattle.rules.specs.References.{edition1, targets}
-use Rattle.rules.specs.Listing.{_∈_, work}
+use Rattle.rules.specs.Listing.{work}
 use Rattle.rules.specs.Space.{stackAt}
 use Rattle.rules.specs.Laws.Tabled.{treeIn}
 use Rattle.rules.specs.Laws.Kept.{tree-alike}
-use Rattle.listing.specs.State.{listIn, stackIn, Apart, Marked, Piled, Stacks}
+use Rattle.listing.specs.State.{listIn, stackIn, Apart, Piled, Stacks}
 use Rattle.listing.specs.Walk.{workFrom, Walked}
 use Rattle.listing.proofs.Fresh.{work-none, work-turn}
 use Rattle.listing.proofs.Parts.{apart-trans, stack-last}

@@ -4,7 +4,6 @@ use crate::note::enter;
 use paths::nodes::below;
 use rules::MARKS_AT;
 use rules::STACK_AT;
-ghost use mathlib.Core.Path.{_≡_};
 ghost use mathlib.Core.List.{_∷_, []};
 ghost use Prim.Native.Nat.{ℕ, _<_, _≤_};
 ghost use lib.ListN.{length};

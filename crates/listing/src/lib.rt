@@ -5,7 +5,6 @@ use crate::given::list_below_each;
 use crate::given::list_configured;
 use crate::sift::sift;
 use crate::walk::walk;
-ghost use mathlib.Core.Path.{_≡_};
 ghost use Rattle.order.specs.Starts.{Asked};
 ghost use Rattle.references.specs.Cells.{blockOf};
 ghost use Rattle.listing.specs.Lists.{Reaches, Lists};

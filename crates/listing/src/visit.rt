@@ -12,8 +12,7 @@ use rules::Kind;
 use rules::Token;
 ghost use mathlib.Core.Path.{_≡_};
 ghost use mathlib.Core.List.{[], map};
-ghost use Prim.Native.Nat.{ℕ, _<_, _≤_};
-ghost use Rattle.rules.specs.Octets.{part};
+ghost use Prim.Native.Nat.{ℕ, _<_};
 ghost use Rattle.rules.specs.Events.{stringAt};
 ghost use Rattle.rules.specs.References.{target, edition1, targets, referencesOf};
 ghost use Rattle.rules.specs.Laws.Tabled.{treeIn, beginOf};
@@ -114,9 +113,7 @@ fn after_token(
         Kind::Nop => Turn::On(ends),
         Kind::Prop { len, name, value } => {
             let v = octets::part(structure, value, len);
-            Turn::On(property(
-                structure, strings, place, work, count, name, v, ends,
-            ))
+            Turn::On(property(structure, strings, place, work, count, name, v, ends))
         }
     }
 }

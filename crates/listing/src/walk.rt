@@ -2,7 +2,6 @@
 use crate::note::Ends;
 use crate::visit::visit;
 use rules::STACK_AT;
-ghost use mathlib.Core.Path.{_≡_};
 ghost use Rattle.rules.specs.Laws.Kept.{Kept};
 ghost use Rattle.references.specs.Cells.{blockOf};
 ghost use Rattle.listing.specs.State.{Piled};

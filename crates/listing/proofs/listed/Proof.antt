@@ -1,5 +1,4 @@
 -- `listed` meets its contract.
-use mathlib.Core.Path.{_≡_, refl, sym, ap, _∙_}
 use native.Mathlib.Omega.{arith}
 use denote.Ref.{now}
 use Rattle.references.specs.Cells.{blockOf}

@@ -1,11 +1,8 @@
 -- `reached` meets its contract: each part hands on what the next asks for.
-use mathlib.Core.Path.{_≡_, refl, sym, ap, _∙_}
-use mathlib.Core.List.{List, [], _∷_}
-use Prim.Native.Nat.{ℕ, _+_, _-_}
 use native.Mathlib.Omega.{arith}
 use denote.Ref.{now}
 use Rattle.references.specs.Cells.{blockOf}
-use Rattle.listing.proofs.Joined.{start-apart, start-room, conf-nodes, given-kept, given-piled, reaches}
+use Rattle.listing.proofs.Joined.{start-room, conf-nodes, given-kept, given-piled, reaches}
 use borrow.Author.Needs.{needs}
 use Rattle.listing.proofs.reached.Statement.{statement}
 use Rattle.listing.proofs.reached.Tie as tie
@@ -22,19 +19,24 @@ list-configured-requires c κs =
 list-below-each-requires : tie.Need-list-below-each-requires
 list-below-each-requires c κs =
     let a = c .before .before .before .before .before .before .before .before .before .before .before .before .before .args in
-    let q = c .before .before .before .before .before .before .before .before .before .before .before .before .before .pre in
-    (omega (arith, c .before .before .before .before .before .before .before .starts .ensures .0, q .kept .few),
-    (conf-nodes (blockOf (a .place) (now (a .structure)) (now (a .strings))) (now (a .work)) (a .count) (now (a .conf)) q (c .before .before .before .before .before .before .before .starts .result) (c .before .before .before .before .before .before .before .starts .ensures .0) (c .before .before .before .before .before .before .before .starts .last .1 .1 .0) (c .before .before .before .before .before .before .before .starts .ensures .1 (now (a .strings)) q)
-    (c .before .before .before .list-configured .last .0) (c .before .before .before .list-configured .result) (c .before .before .before .list-configured .ensures), c .before .before .before .list-configured .ensures .marked))
+    let q = c .before .before .before .before .before .before .before .before .before .before .before .before .before .pre in (
+      omega (arith, c .before .before .before .before .before .before .before .starts .ensures .0, q .kept .few),
+      (
+        conf-nodes (blockOf (a .place) (now (a .structure)) (now (a .strings))) (now (a .work)) (a .count) (now (a .conf)) q (c .before .before .before .before .before .before .before .starts .result) (c .before .before .before .before .before .before .before .starts .ensures .0) (c .before .before .before .before .before .before .before .starts .last .1 .1 .0) (c .before .before .before .before .before .before .before .starts .ensures .1 (now (a .strings)) q)
+            (c .before .before .before .list-configured .last .0) (c .before .before .before .list-configured .result) (c .before .before .before .list-configured .ensures),
+        c .before .before .before .list-configured .ensures .marked,
+      ),
+    )
 
 walk-requires : tie.Need-walk-requires
 walk-requires c κs =
     let a = c .before .before .before .before .before .before .before .before .before .before .before .before .before .before .before .before .before .args in
-    let q = c .before .before .before .before .before .before .before .before .before .before .before .before .before .before .before .before .before .pre in
-    (given-kept (blockOf (a .place) (now (a .structure)) (now (a .strings))) (now (a .work)) (a .count) (now (a .conf)) q (c .before .before .before .before .before .before .before .before .before .before .before .starts .result) (c .before .before .before .before .before .before .before .before .before .before .before .starts .ensures .0) (c .before .before .before .before .before .before .before .before .before .before .before .starts .last .1 .1 .0) (c .before .before .before .before .before .before .before .before .before .before .before .starts .ensures .1 (now (a .strings)) q)
-    (c .before .before .before .before .before .before .before .list-configured .last .0) (c .before .before .before .before .before .before .before .list-configured .result) (c .before .before .before .before .before .before .before .list-configured .ensures) (c .before .before .before .list-below-each .last .0) (c .before .before .before .list-below-each .result) (c .before .before .before .list-below-each .ensures),
-    given-piled (blockOf (a .place) (now (a .structure)) (now (a .strings))) (now (a .work)) (a .count) (now (a .conf)) q (c .before .before .before .before .before .before .before .before .before .before .before .starts .result) (c .before .before .before .before .before .before .before .before .before .before .before .starts .ensures .0) (c .before .before .before .before .before .before .before .before .before .before .before .starts .last .1 .1 .0) (c .before .before .before .before .before .before .before .before .before .before .before .starts .ensures .1 (now (a .strings)) q)
-    (c .before .before .before .before .before .before .before .list-configured .last .0) (c .before .before .before .before .before .before .before .list-configured .result) (c .before .before .before .before .before .before .before .list-configured .ensures) (c .before .before .before .list-below-each .last .0) (c .before .before .before .list-below-each .result) (c .before .before .before .list-below-each .ensures))
+    let q = c .before .before .before .before .before .before .before .before .before .before .before .before .before .before .before .before .before .pre in (
+      given-kept (blockOf (a .place) (now (a .structure)) (now (a .strings))) (now (a .work)) (a .count) (now (a .conf)) q (c .before .before .before .before .before .before .before .before .before .before .before .starts .result) (c .before .before .before .before .before .before .before .before .before .before .before .starts .ensures .0) (c .before .before .before .before .before .before .before .before .before .before .before .starts .last .1 .1 .0) (c .before .before .before .before .before .before .before .before .before .before .before .starts .ensures .1 (now (a .strings)) q)
+          (c .before .before .before .before .before .before .before .list-configured .last .0) (c .before .before .before .before .before .before .before .list-configured .result) (c .before .before .before .before .before .before .before .list-configured .ensures) (c .before .before .before .list-below-each .last .0) (c .before .before .before .list-below-each .result) (c .before .before .before .list-below-each .ensures),
+      given-piled (blockOf (a .place) (now (a .structure)) (now (a .strings))) (now (a .work)) (a .count) (now (a .conf)) q (c .before .before .before .before .before .before .before .before .before .before .before .starts .result) (c .before .before .before .before .before .before .before .before .before .before .before .starts .ensures .0) (c .before .before .before .before .before .before .before .before .before .before .before .starts .last .1 .1 .0) (c .before .before .before .before .before .before .before .before .before .before .before .starts .ensures .1 (now (a .strings)) q)
+          (c .before .before .before .before .before .before .before .list-configured .last .0) (c .before .before .before .before .before .before .before .list-configured .result) (c .before .before .before .before .before .before .before .list-configured .ensures) (c .before .before .before .list-below-each .last .0) (c .before .before .before .list-below-each .result) (c .before .before .before .list-below-each .ensures),
+    )
 
 same-length : tie.Need-same-length
 same-length c = search needs

@@ -1,14 +1,13 @@
 -- `list_below` meets its contract. The invariant: what the start nodes below p are to bring is there, but for what those from here
 -- on bring.
-use mathlib.Core.Path.{_≡_, refl, sym, ap, _∙_}
-use mathlib.Core.List.{List, [], _∷_}
+use mathlib.Core.Path.{ap, _∙_}
+use mathlib.Core.List.{[]}
 use Prim.Native.Nat.{ℕ, _+_, _-_}
 use native.Mathlib.Omega.{arith}
 use lib.ListN.{getD}
 use denote.Ref.{now}
 use Rattle.rules.specs.Blob.{Block}
-use Rattle.rules.specs.Space.{stackAt}
-use Rattle.listing.specs.State.{stackIn, Gains}
+use Rattle.listing.specs.State.{Gains}
 use Rattle.listing.specs.Given.{belowIn}
 use Rattle.listing.proofs.Parts.{stack-at, ceiling}
 use Rattle.listing.proofs.Gained.{belowFrom, gains-refl, start-below, below-turn, below-all}
@@ -40,9 +39,11 @@ cast-x c = search needs
 list-if-below-requires : tie.Need-list-if-below-requires Inv-loop μ-loop
 list-if-below-requires c κs =
     let a = c .before .before .before .before .before .before .args in
-    let p = c .before .before .before .before .before .before .pre in
-    (start-below (a .count) (now (a .work)) (a .listed) (a .starts) (a .p) (p .0) (p .1 .0) (c .before .before .before .before .loop .work) (c .before .before .before .before .loop .n) (c .before .before .before .before .loop .k) (p .1 .1 .room) (c .before .before .before .before .loop .inv nil .stack (a .starts)) (c .before .before .before .loop-test .taken)
-    (c .before .word-of .result) (c .before .word-of .ensures ∙ ap (λ (j : ℕ). getD (c .before .before .before .before .loop .work) (j + c .before .before .before .before .loop .k) 0) stack-at), c .before .before .before .before .loop .inv nil .marked)
+    let p = c .before .before .before .before .before .before .pre in (
+      start-below (a .count) (now (a .work)) (a .listed) (a .starts) (a .p) (p .0) (p .1 .0) (c .before .before .before .before .loop .work) (c .before .before .before .before .loop .n) (c .before .before .before .before .loop .k) (p .1 .1 .room) (c .before .before .before .before .loop .inv nil .stack (a .starts)) (c .before .before .before .loop-test .taken)
+          (c .before .word-of .result) (c .before .word-of .ensures ∙ ap (λ (j : ℕ). getD (c .before .before .before .before .loop .work) (j + c .before .before .before .before .loop .k) 0) stack-at),
+      c .before .before .before .before .loop .inv nil .marked,
+    )
 
 add-k : tie.Need-add-k Inv-loop μ-loop
 add-k c = search needs

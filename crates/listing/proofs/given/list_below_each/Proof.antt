@@ -1,13 +1,11 @@
 -- `list_below_each` meets its contract. The invariant: what each of the configured nodes is to bring is there, but for what those
 -- from here on bring.
-use mathlib.Core.Path.{_≡_, refl, sym, ap, _∙_}
-use mathlib.Core.List.{List, [], _∷_}
-use Prim.Native.Nat.{ℕ, _+_, _-_}
+use mathlib.Core.List.{[]}
+use Prim.Native.Nat.{_-_}
 use native.Mathlib.Omega.{arith}
 use lib.ListN.{length, getD, drop}
 use denote.Ref.{now}
 use Rattle.rules.specs.Blob.{Block}
-use Rattle.listing.specs.State.{stackIn, Gains}
 use Rattle.listing.specs.Given.{belowIn, Gathers}
 use Rattle.listing.proofs.Gained.{gathers-refl, gathers-each, gathers-all, below-alike}
 use borrow.Author.Needs.{needs}

@@ -1,9 +1,8 @@
 -- `enter` meets its contract.
-use mathlib.Core.Path.{refl, ap, _∙_}
+use mathlib.Core.Path.{ap, _∙_}
 use mathlib.Core.List.{List, [], _∷_}
 use Prim.Native.Nat.{ℕ, _+_}
 use native.Mathlib.Omega.{arith}
-use denote.Ref.{now}
 use Rattle.rules.specs.Ceilings.{nodeCeiling, nodeWords}
 use Rattle.rules.specs.Space.{tableWords, marksAt, listAt}
 use Rattle.rules.specs.Octets.{lay}
@@ -35,7 +34,7 @@ same-length c = search needs
 
 returns : tie.Need-returns
 unfolding entered marksAt listAt tableWords nodeCeiling nodeWords
-returns c = c .before .before .put-word-of2 .ensures ∙ ap (λ (ws : List ℕ). lay ws (10240 + c .before .before .before .before .before .before .before .before .before .args .n) (c .before .before .before .before .before .before .before .before .before .args .x ∷ [])) (c .before .before .before .before .before .before .put-word-of .ensures)
+returns c = c .before .before .put-word-of2 .ensures ∙ ap (λ (ws : List ℕ). lay ws (listAt + c .before .before .before .before .before .before .before .before .before .args .n) (c .before .before .before .before .before .before .before .before .before .args .x ∷ [])) (c .before .before .before .before .before .before .put-word-of .ensures)
 
 pub enter-spec : {M : Type 1} → statement M
 enter-spec = tie.close (tie.spec add-put-word-of put-word-of-requires add-put-word-of-2 cast-put-word-of put-word-of-requires-2 same-length returns)

@@ -1,14 +1,14 @@
 -- `note` meets its contract: the node is known, or it is entered and put on the stack.
-use mathlib.Core.Path.{_≡_, refl, sym, ap, _∙_}
+use mathlib.Core.Path.{_≡_, sym, ap, _∙_}
 use mathlib.Core.List.{List, [], _∷_}
 use Prim.Native.Nat.{ℕ, _+_}
 use native.Mathlib.Omega.{arith}
 use lib.ListN.{getD}
 use denote.Ref.{now}
 use Rattle.rules.specs.Ceilings.{nodeCeiling}
-use Rattle.rules.specs.Space.{marksAt, stackAt}
+use Rattle.rules.specs.Space.{stackAt}
 use Rattle.rules.specs.Octets.{lay}
-use Rattle.listing.specs.State.{Piled, Stacks, entered}
+use Rattle.listing.specs.State.{entered}
 use Rattle.listing.proofs.Parts.{marks-at, stack-at}
 use Rattle.listing.proofs.Notes.{known, unknown, stacks-known, stacks-new}
 use borrow.Author.Needs.{needs}
@@ -61,8 +61,8 @@ returns-2 c =
     let a = c .before .before .before .before .before .before .before .before .before .before .before .before .args in
     λ count h p.
     let e : c .before .before .put-word-of .last .0 ≡ lay (entered (now (a .work)) (a .e .list) (a .x)) (stackAt + a .e .stack) (a .x ∷ []) =
-        c .before .before .put-word-of .ensures ∙ ap (λ (ws : List ℕ). lay ws (12288 + a .e .stack) (a .x ∷ [])) (c .before .before .before .before .before .before .enter .ensures)
-        ∙ ap (λ (k : ℕ). lay (entered (now (a .work)) (a .e .list) (a .x)) (k + a .e .stack) (a .x ∷ [])) stack-at in
+    c .before .before .put-word-of .ensures ∙ ap (λ (k : ℕ). lay (c .before .before .before .before .before .before .enter .last .0) (k + a .e .stack) (a .x ∷ [])) stack-at
+    ∙ ap (λ (ws : List ℕ). lay ws (stackAt + a .e .stack) (a .x ∷ [])) (c .before .before .before .before .before .before .enter .ensures) in
     rw e (stacks-new (now (a .work)) count (a .e .list) (p .marked) (a .x) h
     (unknown (now (a .work)) count (a .e .list) (p .marked) (a .x) h (ap (λ (k : ℕ). getD (now (a .work)) (k + a .x) 0) (sym marks-at) ∙ sym (c .before .before .before .before .before .before .before .before .before .word-of .ensures) ∙ c .before .before .before .before .before .before .before .before .if1 .left)) (a .e .stack) (p .least) (p .nodes) [])
 

@@ -1,5 +1,4 @@
 -- `is_spared` meets its contract.
-use native.Mathlib.Omega.{arith}
 use denote.Ref.{now}
 use Rattle.listing.proofs.Sieved.{spared-root, spared-other}
 use borrow.Author.Needs.{needs}

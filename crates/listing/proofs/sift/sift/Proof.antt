@@ -1,13 +1,10 @@
 -- `sift` meets its contract. The invariant: the nodes up to here are sifted.
-use mathlib.Core.Path.{_≡_, refl, sym, ap, _∙_}
-use mathlib.Core.List.{List, [], _∷_}
-use Prim.Native.Nat.{ℕ, _+_, _-_, _≤_}
+use mathlib.Core.List.{[]}
+use Prim.Native.Nat.{_-_, _≤_}
 use native.Mathlib.Omega.{arith}
-use lib.ListN.{getD}
 use denote.Ref.{now}
 use Rattle.rules.specs.Blob.{Block}
 use Rattle.listing.specs.Sift.{Sifts}
-use Rattle.listing.proofs.Parts.{list-at, ceiling}
 use Rattle.listing.proofs.Sieved.{sifts-none, sifted}
 use borrow.Author.Needs.{needs}
 use Rattle.listing.proofs.sift.sift.Statement.{statement}

@@ -1,7 +1,7 @@
 -- `sift_one` meets its contract: the node is taken out, or moved up.
-use mathlib.Core.Path.{_≡_, refl, sym, ap, _∙_}
-use mathlib.Core.List.{List, [], _∷_}
-use Prim.Native.Nat.{ℕ, _+_, _-_}
+use mathlib.Core.Path.{_≡_, sym, ap, _∙_}
+use mathlib.Core.List.{[], _∷_}
+use Prim.Native.Nat.{ℕ, _+_}
 use native.Mathlib.Omega.{arith}
 use lib.ListN.{getD}
 use denote.Ref.{now}
@@ -31,10 +31,11 @@ same-length c = search needs
 
 returns : tie.Need-returns
 returns c =
-    let a = c .before .before .before .before .before .before .before .args in
-    (λ b ws n h l s. sifts-out b ws (a .count) (now (a .excl)) n l (now (a .work)) (a .i) (a .j) s h (c .before .before .before .word-of .result)
-    (c .before .before .before .word-of .ensures ∙ ap (λ (k : ℕ). getD (now (a .work)) (k + a .i) 0) list-at) (sym (c .before .is-spared .ensures b) ∙ not-true (c .before .is-spared .result) (c .if1 .taken)),
-    omega (arith, c .before .before .before .before .before .before .before .pre .0))
+    let a = c .before .before .before .before .before .before .before .args in (
+      λ b ws n h l s. sifts-out b ws (a .count) (now (a .excl)) n l (now (a .work)) (a .i) (a .j) s h (c .before .before .before .word-of .result)
+          (c .before .before .before .word-of .ensures ∙ ap (λ (k : ℕ). getD (now (a .work)) (k + a .i) 0) list-at) (sym (c .before .is-spared .ensures b) ∙ not-true (c .before .is-spared .result) (c .if1 .taken)),
+      omega (arith, c .before .before .before .before .before .before .before .pre .0),
+    )
 
 add-put-word-of : tie.Need-add-put-word-of
 add-put-word-of c = omega (arith, ceiling)
@@ -51,10 +52,11 @@ same-length-2 c = search needs
 returns-2 : tie.Need-returns-2
 returns-2 c =
     let a = c .before .before .before .before .before .before .before .before .before .before .before .args in
-    let e : c .before .before .put-word-of .last .0 ≡ lay (now (a .work)) (listAt + a .j) (c .before .before .before .before .before .before .before .word-of .result ∷ []) = c .before .before .put-word-of .ensures ∙ ap (λ (k : ℕ). lay (now (a .work)) (k + a .j) (c .before .before .before .before .before .before .before .word-of .result ∷ [])) list-at in
-    (λ b ws n h l s. rw e (sifts-in b ws (a .count) (now (a .excl)) n l (now (a .work)) (a .i) (a .j) s h (c .before .before .before .before .before .before .before .word-of .result)
-    (c .before .before .before .before .before .before .before .word-of .ensures ∙ ap (λ (k : ℕ). getD (now (a .work)) (k + a .i) 0) list-at) (sym (c .before .before .before .before .before .is-spared .ensures b) ∙ not-false (c .before .before .before .before .before .is-spared .result) (c .before .before .before .before .if1 .left))),
-    omega (arith, c .before .before .before .before .before .before .before .before .before .before .before .pre .0))
+    let e : c .before .before .put-word-of .last .0 ≡ lay (now (a .work)) (listAt + a .j) (c .before .before .before .before .before .before .before .word-of .result ∷ []) = c .before .before .put-word-of .ensures ∙ ap (λ (k : ℕ). lay (now (a .work)) (k + a .j) (c .before .before .before .before .before .before .before .word-of .result ∷ [])) list-at in (
+      λ b ws n h l s. rw e (sifts-in b ws (a .count) (now (a .excl)) n l (now (a .work)) (a .i) (a .j) s h (c .before .before .before .before .before .before .before .word-of .result)
+          (c .before .before .before .before .before .before .before .word-of .ensures ∙ ap (λ (k : ℕ). getD (now (a .work)) (k + a .i) 0) list-at) (sym (c .before .before .before .before .before .is-spared .ensures b) ∙ not-false (c .before .before .before .before .before .is-spared .result) (c .before .before .before .before .if1 .left))),
+      omega (arith, c .before .before .before .before .before .before .before .before .before .before .before .pre .0),
+    )
 
 pub sift-one-spec : {M : Type 1} → statement M
 sift-one-spec = tie.close (tie.spec add-word-of word-of-requires cast-is-spared is-spared-requires same-length returns add-put-word-of put-word-of-requires add-result same-length-2 returns-2)

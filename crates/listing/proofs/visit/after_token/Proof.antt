@@ -1,7 +1,4 @@
 -- `after_token` meets its contract: a case for each kind.
-use mathlib.Core.Path.{_≡_, refl, sym, ap, _∙_}
-use mathlib.Core.List.{List, [], _∷_, map}
-use Prim.Native.Nat.{ℕ, _+_}
 use denote.Ref.{now}
 use Rattle.references.specs.Cells.{blockOf}
 use Rattle.listing.proofs.Visits.{told-prop, told-nop, told-begin, told-end}

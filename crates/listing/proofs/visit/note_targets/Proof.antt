@@ -1,12 +1,9 @@
 -- `note_targets` meets its contract. The invariant: what the targets from the first word on are to bring is there, but for what
 -- those from the present word on bring.
-use mathlib.Core.Path.{_≡_, refl, sym, ap, _∙_}
-use mathlib.Core.List.{List, [], _∷_, map}
-use Prim.Native.Nat.{ℕ, _+_, _-_, _/_}
+use Prim.Native.Nat.{_-_, _/_}
 use native.Mathlib.Omega.{arith}
 use lib.ListN.{length}
 use denote.Ref.{now}
-use Rattle.rules.specs.Ceilings.{nodeCeiling}
 use Rattle.references.specs.Rows.{meaning}
 use Rattle.references.specs.Cells.{blockOf}
 use Rattle.listing.specs.State.{Stacks}
@@ -51,24 +48,27 @@ note-requires : tie.Need-note-requires Inv-loop μ-loop
 note-requires c κs =
     let a = c .before .before .before .before .before .before .before .before .before .before .before .args in
     let h = scan-target (blockOf (a .place) (now (a .structure)) (now (a .strings))) (now (a .work)) (a .count) (a .ends .list) (a .ends .stack) (meaning (a .c)) (now (a .value))
-        (c .before .before .before .before .before .before .loop .work) (c .before .before .before .before .before .before .loop .e .list) (c .before .before .before .before .before .before .loop .e .stack) (c .before .before .before .before .before .before .loop .i) (c .before .before .before .before .before .before .loop .inv) (c .before .before .before .before .next-reference .result) (c .before .before .before .before .next-reference .ensures) _ _ _ _ (c .before .before .target .given .1) in
+    (c .before .before .before .before .before .before .loop .work) (c .before .before .before .before .before .before .loop .e .list) (c .before .before .before .before .before .before .loop .e .stack) (c .before .before .before .before .before .before .loop .i) (c .before .before .before .before .before .before .loop .inv) (c .before .before .before .before .next-reference .result) (c .before .before .before .before .next-reference .ensures) _ _ _ _ (c .before .before .target .given .1) in
     let p = c .before .before .before .before .before .before .loop .inv .piled in
     (omega (arith, h, p .marked .few), (omega (arith, p .marked .few, p .marked .short), omega (arith, p .marked .few, p .marked .short, p .least)))
 
 loop-less : tie.Need-loop-less Inv-loop μ-loop
 loop-less c =
     let a = c .before .before .before .before .before .before .before .before .before .before .before .before .before .before .args in
-    omega (arith, scan-ahead (blockOf (a .place) (now (a .structure)) (now (a .strings))) (now (a .work)) (a .count) (a .ends .list) (a .ends .stack) (meaning (a .c)) (now (a .value))
-        (c .before .before .before .before .before .before .before .before .before .loop .work) (c .before .before .before .before .before .before .before .before .before .loop .e .list) (c .before .before .before .before .before .before .before .before .before .loop .e .stack) (c .before .before .before .before .before .before .before .before .before .loop .i) (c .before .before .before .before .before .before .before .before .before .loop .inv) (c .before .before .before .before .before .before .before .next-reference .result) (c .before .before .before .before .before .before .before .next-reference .ensures) _ _ _ _ (c .before .before .before .before .before .target .given .1))
+    omega (
+      arith,
+      scan-ahead (blockOf (a .place) (now (a .structure)) (now (a .strings))) (now (a .work)) (a .count) (a .ends .list) (a .ends .stack) (meaning (a .c)) (now (a .value))
+          (c .before .before .before .before .before .before .before .before .before .loop .work) (c .before .before .before .before .before .before .before .before .before .loop .e .list) (c .before .before .before .before .before .before .before .before .before .loop .e .stack) (c .before .before .before .before .before .before .before .before .before .loop .i) (c .before .before .before .before .before .before .before .before .before .loop .inv) (c .before .before .before .before .before .before .before .next-reference .result) (c .before .before .before .before .before .before .before .next-reference .ensures) _ _ _ _ (c .before .before .before .before .before .target .given .1),
+    )
 
 loop-again : tie.Need-loop-again Inv-loop μ-loop
 loop-again c =
     let a = c .before .before .before .before .before .before .before .before .before .before .before .before .before .before .args in
     let h = scan-target (blockOf (a .place) (now (a .structure)) (now (a .strings))) (now (a .work)) (a .count) (a .ends .list) (a .ends .stack) (meaning (a .c)) (now (a .value))
-        (c .before .before .before .before .before .before .before .before .before .loop .work) (c .before .before .before .before .before .before .before .before .before .loop .e .list) (c .before .before .before .before .before .before .before .before .before .loop .e .stack) (c .before .before .before .before .before .before .before .before .before .loop .i) (c .before .before .before .before .before .before .before .before .before .loop .inv) (c .before .before .before .before .before .before .before .next-reference .result) (c .before .before .before .before .before .before .before .next-reference .ensures) _ _ _ _ (c .before .before .before .before .before .target .given .1) in
+    (c .before .before .before .before .before .before .before .before .before .loop .work) (c .before .before .before .before .before .before .before .before .before .loop .e .list) (c .before .before .before .before .before .before .before .before .before .loop .e .stack) (c .before .before .before .before .before .before .before .before .before .loop .i) (c .before .before .before .before .before .before .before .before .before .loop .inv) (c .before .before .before .before .before .before .before .next-reference .result) (c .before .before .before .before .before .before .before .next-reference .ensures) _ _ _ _ (c .before .before .before .before .before .target .given .1) in
     scan-next (blockOf (a .place) (now (a .structure)) (now (a .strings))) (now (a .work)) (a .count) (a .ends .list) (a .ends .stack) (meaning (a .c)) (now (a .value))
-        (c .before .before .before .before .before .before .before .before .before .loop .work) (c .before .before .before .before .before .before .before .before .before .loop .e .list) (c .before .before .before .before .before .before .before .before .before .loop .e .stack) (c .before .before .before .before .before .before .before .before .before .loop .i) (c .before .before .before .before .before .before .before .before .before .loop .inv) (c .before .before .before .before .before .before .before .next-reference .result) (c .before .before .before .before .before .before .before .next-reference .ensures) _ _ _ _ (c .before .before .before .before .before .target .given .1)
-        (c .before .before .note .last .0) (c .before .before .note .result .list) (c .before .before .note .result .stack) (c .before .before .note .ensures (a .count) h (c .before .before .before .before .before .before .before .before .before .loop .inv .piled))
+    (c .before .before .before .before .before .before .before .before .before .loop .work) (c .before .before .before .before .before .before .before .before .before .loop .e .list) (c .before .before .before .before .before .before .before .before .before .loop .e .stack) (c .before .before .before .before .before .before .before .before .before .loop .i) (c .before .before .before .before .before .before .before .before .before .loop .inv) (c .before .before .before .before .before .before .before .next-reference .result) (c .before .before .before .before .before .before .before .next-reference .ensures) _ _ _ _ (c .before .before .before .before .before .target .given .1)
+    (c .before .before .note .last .0) (c .before .before .note .result .list) (c .before .before .note .result .stack) (c .before .before .note .ensures (a .count) h (c .before .before .before .before .before .before .before .before .before .loop .inv .piled))
 
 pub note-targets-spec : {M : Type 1} → statement M
 note-targets-spec = tie.close (tie.spec Inv-loop μ-loop loop-holds next-reference-requires enum-known-target enum-told same-length returns note-requires loop-less loop-again)

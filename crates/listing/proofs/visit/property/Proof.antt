@@ -1,11 +1,7 @@
 -- `property` meets its contract: it holds no references, or those that its scan tells.
-use mathlib.Core.Path.{_≡_, refl, sym, ap, _∙_}
-use mathlib.Core.List.{List, [], _∷_, map}
-use Prim.Native.Nat.{ℕ, _+_}
-use native.Mathlib.Omega.{arith}
+use mathlib.Core.Path.{sym, ap, _∙_}
 use denote.Ref.{now}
 use borrow.Author.Tests.{not-true, not-false}
-use Rattle.rules.specs.Octets.{Bytes}
 use Rattle.rules.specs.Events.{stringAt}
 use Rattle.rules.specs.References.{isReference, cellRows, cellsIn}
 use Rattle.references.specs.Rows.{meaning}

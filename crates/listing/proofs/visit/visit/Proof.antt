@@ -1,8 +1,6 @@
 -- `visit` meets its contract. The invariant: what the node's targets are to bring is there, but for what those bring that the
 -- properties from here on tell.
-use mathlib.Core.Path.{_≡_, refl, sym, ap, _∙_}
-use mathlib.Core.List.{List, [], _∷_, map}
-use Prim.Native.Nat.{ℕ, _+_, _-_, _≤_}
+use Prim.Native.Nat.{_-_, _≤_}
 use native.Mathlib.Omega.{arith}
 use lib.ListN.{length}
 use denote.Ref.{now}
@@ -46,10 +44,11 @@ returns c =
 loop-holds : tie.Need-loop-holds Inv-loop μ-loop
 loop-holds c =
     let a = c .before .before .before .before .before .before .before .before .before .args in
-    let p = c .before .before .before .before .before .before .before .before .before .pre in
-    (item-ahead (now (a .structure)) (c .before .before .before .before .begin-of .result) (c .before .before .before .token-at .result) (c .before .first .given .0 .0) (c .before .first .given .0 .1 .0) (c .before .before .before .token-at .ensures) (c .before .first .given .1) .1,
-    visit-first (blockOf (a .place) (now (a .structure)) (now (a .strings))) (now (a .work)) (a .count) (a .ends .list) (a .ends .stack) (a .x) (p .1 .1)
-    (c .before .before .before .before .begin-of .result) (c .before .before .before .before .begin-of .ensures) (c .before .before .before .token-at .result) (c .before .before .before .token-at .ensures) (p .1 .0) (c .before .first .given .0 .0) (c .before .first .given .0 .1 .0) (c .before .first .given .1))
+    let p = c .before .before .before .before .before .before .before .before .before .pre in (
+      item-ahead (now (a .structure)) (c .before .before .before .before .begin-of .result) (c .before .before .before .token-at .result) (c .before .first .given .0 .0) (c .before .first .given .0 .1 .0) (c .before .before .before .token-at .ensures) (c .before .first .given .1) .1,
+      visit-first (blockOf (a .place) (now (a .structure)) (now (a .strings))) (now (a .work)) (a .count) (a .ends .list) (a .ends .stack) (a .x) (p .1 .1)
+          (c .before .before .before .before .begin-of .result) (c .before .before .before .before .begin-of .ensures) (c .before .before .before .token-at .result) (c .before .before .before .token-at .ensures) (p .1 .0) (c .before .first .given .0 .0) (c .before .first .given .0 .1 .0) (c .before .first .given .1),
+    )
 
 token-at-requires-2 : tie.Need-token-at-requires-2 Inv-loop μ-loop
 token-at-requires-2 c κs = search needs
@@ -101,11 +100,12 @@ loop-less c = omega (arith, item-ahead (now (c .before .before .before .before .
 loop-again : tie.Need-loop-again Inv-loop μ-loop
 loop-again c =
     let a = c .before .before .before .before .before .before .before .before .before .before .before .before .before .before .before .before .before .before .before .before .before .args in
-    let p = c .before .before .before .before .before .before .before .before .before .before .before .before .before .before .before .before .before .before .before .before .before .pre in
-    (item-ahead (now (a .structure)) (c .before .before .before .before .before .before .before .before .before .before .before .loop .at) (c .before .before .before .before .before .before .before .before .before .before .token-at2 .result) (c .before .before .before .before .before .before .before .before .kind .given .0 .0) (c .before .before .before .before .before .before .before .before .kind .given .0 .1 .0) (c .before .before .before .before .before .before .before .before .before .before .token-at2 .ensures) (c .before .before .before .before .before .before .before .before .kind .given .1) .1,
-    visit-on (blockOf (a .place) (now (a .structure)) (now (a .strings))) (now (a .work)) (a .count) (a .ends .list) (a .ends .stack) (a .x) (p .1 .1)
-    (c .before .before .before .before .before .before .before .before .before .before .before .loop .work) (c .before .before .before .before .before .before .before .before .before .before .before .loop .e) (c .before .before .before .before .before .before .before .before .before .before .before .loop .at) (c .before .before .before .before .before .before .before .before .before .before .before .loop .inv .0) (c .before .before .before .before .before .before .before .before .before .before .before .loop .inv .1) (c .before .before .before .before .before .before .before .before .before .before .token-at2 .result) (c .before .before .before .before .before .before .before .before .before .before .token-at2 .ensures) (c .before .before .before .before .before .before .before .before .kind .given .0 .0) (c .before .before .before .before .before .before .before .before .kind .given .0 .1 .0) (c .before .before .before .before .before .before .before .before .kind .given .1)
-    (c .before .before .before .before .before .after-token .last .1 .1 .1 .0) (c .before .before .before .before .before .after-token .result) (c .before .before .before .before .before .after-token .ensures) (c .before .after .given .0 .0) (c .before .after .given .1))
+    let p = c .before .before .before .before .before .before .before .before .before .before .before .before .before .before .before .before .before .before .before .before .before .pre in (
+      item-ahead (now (a .structure)) (c .before .before .before .before .before .before .before .before .before .before .before .loop .at) (c .before .before .before .before .before .before .before .before .before .before .token-at2 .result) (c .before .before .before .before .before .before .before .before .kind .given .0 .0) (c .before .before .before .before .before .before .before .before .kind .given .0 .1 .0) (c .before .before .before .before .before .before .before .before .before .before .token-at2 .ensures) (c .before .before .before .before .before .before .before .before .kind .given .1) .1,
+      visit-on (blockOf (a .place) (now (a .structure)) (now (a .strings))) (now (a .work)) (a .count) (a .ends .list) (a .ends .stack) (a .x) (p .1 .1)
+          (c .before .before .before .before .before .before .before .before .before .before .before .loop .work) (c .before .before .before .before .before .before .before .before .before .before .before .loop .e) (c .before .before .before .before .before .before .before .before .before .before .before .loop .at) (c .before .before .before .before .before .before .before .before .before .before .before .loop .inv .0) (c .before .before .before .before .before .before .before .before .before .before .before .loop .inv .1) (c .before .before .before .before .before .before .before .before .before .before .token-at2 .result) (c .before .before .before .before .before .before .before .before .before .before .token-at2 .ensures) (c .before .before .before .before .before .before .before .before .kind .given .0 .0) (c .before .before .before .before .before .before .before .before .kind .given .0 .1 .0) (c .before .before .before .before .before .before .before .before .kind .given .1)
+          (c .before .before .before .before .before .after-token .last .1 .1 .1 .0) (c .before .before .before .before .before .after-token .result) (c .before .before .before .before .before .after-token .ensures) (c .before .after .given .0 .0) (c .before .after .given .1),
+    )
 
 pub visit-spec : {M : Type 1} → statement M
 visit-spec = tie.close (tie.spec Inv-loop μ-loop begin-of-requires token-at-requires enum-known-first same-length returns loop-holds token-at-requires-2 enum-known-kind same-length-2 returns-2 after-token-requires enum-known-after enum-told same-length-3 returns-3 loop-less loop-again)

@@ -1,14 +1,12 @@
 -- `walk` meets its contract. The invariant: what is listed, and what the work list still comes to, is what it came to at first.
-use mathlib.Core.Path.{_≡_, refl, sym, ap, _∙_}
-use mathlib.Core.List.{List, [], _∷_}
-use Prim.Native.Nat.{ℕ, _+_, _-_, _<_}
+use mathlib.Core.Path.{_≡_, refl, ap, _∙_}
+use Prim.Native.Nat.{ℕ, _+_, _-_}
 use native.Mathlib.Omega.{arith}
-use lib.ListN.{length, getD}
+use lib.ListN.{getD}
 use denote.Ref.{now}
-use Rattle.rules.specs.Ceilings.{nodeCeiling}
 use Rattle.references.specs.Cells.{blockOf}
 use Rattle.listing.specs.State.{Apart, Piled}
-use Rattle.listing.specs.Walk.{workFrom, Walked}
+use Rattle.listing.specs.Walk.{workFrom}
 use Rattle.listing.proofs.Parts.{stack-at, ceiling, apart-refl, apart-kept}
 use Rattle.listing.proofs.Walks.{top-small, popped, walk-turn, walk-apart, walk-less, walked}
 use borrow.Author.Needs.{needs}
@@ -44,11 +42,14 @@ cast-x c = search needs
 visit-requires : tie.Need-visit-requires Inv-loop μ-loop
 visit-requires c κs =
     let a = c .before .before .before .before .before .before .before .before .args in
-    let p = c .before .before .before .before .loop .inv .1 in
-    (apart-kept (blockOf (a .place) (now (a .structure)) (now (a .strings))) (now (a .work)) (c .before .before .before .before .loop .work) (a .count) (c .before .before .before .before .loop .inv .0) (c .before .before .before .before .before .before .before .before .pre .0),
-    (popped (c .before .before .before .before .loop .work) (a .count) (c .before .before .before .before .loop .n) (c .before .before .before .before .loop .s) p (c .before .before .before .loop-test .taken),
-    (let e : c .before .word-of .result ≡ getD (c .before .before .before .before .loop .work) _ 0 = c .before .word-of .ensures ∙ ap (λ (k : ℕ). getD (c .before .before .before .before .loop .work) (k + (c .before .before .before .before .loop .s - 1)) 0) stack-at in
-    omega (arith, e, top-small (c .before .before .before .before .loop .work) (a .count) (c .before .before .before .before .loop .n) (c .before .before .before .before .loop .s) p (c .before .before .before .loop-test .taken)))))
+    let p = c .before .before .before .before .loop .inv .1 in (
+      apart-kept (blockOf (a .place) (now (a .structure)) (now (a .strings))) (now (a .work)) (c .before .before .before .before .loop .work) (a .count) (c .before .before .before .before .loop .inv .0) (c .before .before .before .before .before .before .before .before .pre .0),
+      (
+        popped (c .before .before .before .before .loop .work) (a .count) (c .before .before .before .before .loop .n) (c .before .before .before .before .loop .s) p (c .before .before .before .loop-test .taken),
+        (let e : c .before .word-of .result ≡ getD (c .before .before .before .before .loop .work) _ 0 = c .before .word-of .ensures ∙ ap (λ (k : ℕ). getD (c .before .before .before .before .loop .work) (k + (c .before .before .before .before .loop .s - 1)) 0) stack-at in
+            omega (arith, e, top-small (c .before .before .before .before .loop .work) (a .count) (c .before .before .before .before .loop .n) (c .before .before .before .before .loop .s) p (c .before .before .before .loop-test .taken))),
+      ),
+    )
 
 loop-less : tie.Need-loop-less Inv-loop μ-loop
 loop-less c =
@@ -60,12 +61,13 @@ loop-less c =
 loop-again : tie.Need-loop-again Inv-loop μ-loop
 loop-again c =
     let a = c .before .before .before .before .before .before .before .before .before .before .before .args in
-    let e = c .before .before .before .before .word-of .ensures ∙ ap (λ (k : ℕ). getD (c .before .before .before .before .before .before .before .loop .work) (k + (c .before .before .before .before .before .before .before .loop .s - 1)) 0) stack-at in
-    (walk-apart (c .before .before .before .before .before .before .before .loop .work) (a .count) (c .before .before .before .before .before .before .before .loop .n) (c .before .before .before .before .before .before .before .loop .s) (c .before .before .before .before .before .before .before .loop .inv .1) (c .before .before .before .before .before .before .loop-test .taken) (blockOf (a .place) (now (a .structure)) (now (a .strings))) (now (a .work)) (c .before .before .before .before .before .before .before .loop .inv .0)
-    (c .before .before .before .before .word-of .result) e (c .before .before .visit .last .1 .1 .1 .0) (c .before .before .visit .result .list) (c .before .before .visit .result .stack) (c .before .before .visit .ensures),
-    c .before .before .visit .ensures .piled,
-    walk-turn (c .before .before .before .before .before .before .before .loop .work) (a .count) (c .before .before .before .before .before .before .before .loop .n) (c .before .before .before .before .before .before .before .loop .s) (c .before .before .before .before .before .before .before .loop .inv .1) (c .before .before .before .before .before .before .loop-test .taken) (blockOf (a .place) (now (a .structure)) (now (a .strings))) (now (a .work)) (c .before .before .before .before .before .before .before .loop .inv .0)
-    (c .before .before .before .before .word-of .result) e (c .before .before .visit .last .1 .1 .1 .0) (c .before .before .visit .result .list) (c .before .before .visit .result .stack) (c .before .before .visit .ensures) ∙ c .before .before .before .before .before .before .before .loop .inv .2)
+    let e = c .before .before .before .before .word-of .ensures ∙ ap (λ (k : ℕ). getD (c .before .before .before .before .before .before .before .loop .work) (k + (c .before .before .before .before .before .before .before .loop .s - 1)) 0) stack-at in (
+      walk-apart (c .before .before .before .before .before .before .before .loop .work) (a .count) (c .before .before .before .before .before .before .before .loop .n) (c .before .before .before .before .before .before .before .loop .s) (c .before .before .before .before .before .before .before .loop .inv .1) (c .before .before .before .before .before .before .loop-test .taken) (blockOf (a .place) (now (a .structure)) (now (a .strings))) (now (a .work)) (c .before .before .before .before .before .before .before .loop .inv .0)
+          (c .before .before .before .before .word-of .result) e (c .before .before .visit .last .1 .1 .1 .0) (c .before .before .visit .result .list) (c .before .before .visit .result .stack) (c .before .before .visit .ensures),
+      c .before .before .visit .ensures .piled,
+      walk-turn (c .before .before .before .before .before .before .before .loop .work) (a .count) (c .before .before .before .before .before .before .before .loop .n) (c .before .before .before .before .before .before .before .loop .s) (c .before .before .before .before .before .before .before .loop .inv .1) (c .before .before .before .before .before .before .loop-test .taken) (blockOf (a .place) (now (a .structure)) (now (a .strings))) (now (a .work)) (c .before .before .before .before .before .before .before .loop .inv .0)
+          (c .before .before .before .before .word-of .result) e (c .before .before .visit .last .1 .1 .1 .0) (c .before .before .visit .result .list) (c .before .before .visit .result .stack) (c .before .before .visit .ensures) ∙ c .before .before .before .before .before .before .before .loop .inv .2,
+    )
 
 same-length : tie.Need-same-length Inv-loop μ-loop
 same-length c = c .before .loop .inv .0 .size
