@@ -1,0 +1,1 @@
+-- What the copy leaves in the guest.

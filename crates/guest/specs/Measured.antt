@@ -1,0 +1,1 @@
+-- What the copy takes, without writing it.

@@ -1,0 +1,2 @@
+// The filtered copy.
+mod walk;
