@@ -1,2 +1,5 @@
 -- The laws that the proofs of this crate share.
 pub mod Marks
+pub mod Sifts
+pub mod Noted
+pub mod Turns

@@ -5,7 +5,8 @@ use mathlib.Core.List.{List}
 use Prim.Native.Nat.{ℕ, _+_, _-_, _≤_, _<_}
 use native.Mathlib.Omega.{arith}
 use lib.Dec.{eqb}
-use lib.ListN.{length, getD, List·getD-eq-default}
+use borrow.Author.Tests.{lt-ltb, le-ltb}
+use lib.ListN.{length, getD}
 use Rattle.rules.specs.Ceilings.{nodeCeiling, nodeWords}
 use Rattle.rules.specs.Space.{tableWords, marksAt, listAt, stackAt}
 use Rattle.rules.specs.declared.Kind.{Kind}
@@ -13,12 +14,13 @@ use Rattle.rules.specs.declared.Kind.the-variants.{Begin, EndNode, Prop, Nop}
 use Rattle.guest.specs.declared.walk.Walk.{Walk}
 use Rattle.guest.specs.Walked.{marked, copies, onwardOf, Kept}
 
-pub mark-here : (ws : List ℕ) (i : ℕ) → marked ws i ≡ eqb (getD ws (8192 + i) 0) 1
+pub mark-here : (ws : List ℕ) (i w : ℕ) → i < 2048 → w ≡ getD ws (8192 + i) 0 → eqb w 1 ≡ marked ws i
 unfolding marked marksAt tableWords nodeCeiling nodeWords
-mark-here ws i = refl
+mark-here ws i w h e = rw (lt-ltb i 2048 h, e)
 
-pub mark-past : (ws : List ℕ) (i : ℕ) → length ws ≤ 8192 + i → marked ws i ≡ false
-mark-past ws i h = rw (mark-here ws i, List·getD-eq-default ws 0 {n = 8192 + i} h)
+pub mark-past : (ws : List ℕ) (i : ℕ) → 2048 ≤ i → false ≡ marked ws i
+unfolding marked nodeCeiling
+mark-past ws i h = rw (le-ltb i 2048 h)
 
 -- ---- the walk behind a token
 

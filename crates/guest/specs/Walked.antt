@@ -4,9 +4,9 @@ use mathlib.Core.Path.{_≡_}
 use mathlib.Core.Bool.{Bool, true, false, _&&_}
 use mathlib.Core.List.{List, [], _∷_}
 use Prim.Native.Nat.{ℕ, suc, _+_, _-_, _≤_, _<_}
-use lib.Dec.{eqb}
+use lib.Dec.{eqb, ltb}
 use lib.ListN.{length, getD}
-use Rattle.rules.specs.Ceilings.{blobCeiling, workWords}
+use Rattle.rules.specs.Ceilings.{blobCeiling, nodeCeiling, workWords}
 use Rattle.rules.specs.Space.{marksAt, stackAt}
 use Rattle.rules.specs.Octets.{Bytes, if_then_else_, part}
 use Rattle.rules.specs.Outcome.{passes}
@@ -24,9 +24,9 @@ use Rattle.guest.specs.declared.walk.Walk.{Walk}
 abbrev pub blockOf : (place : ℕ) (structure strings : Bytes) → Block
 blockOf place structure strings = record { place = place; structure = structure; strings = strings }
 
--- node i is copied where its word among the marks is 1
+-- node i is copied where its word among the marks is 1; there is a word for each node up to the ceiling
 unfoldable pub marked : List ℕ → ℕ → Bool
-marked ws i = eqb (getD ws (marksAt + i) 0) 1
+marked ws i = ltb i nodeCeiling && eqb (getD ws (marksAt + i) 0) 1
 
 -- ---- a token's part
 

@@ -2,8 +2,10 @@
 // keeps no stack of open nodes: it counts those among them that are not copied, and while there are any, copies nothing.
 use rules::Kind;
 use rules::MARKS_AT;
+use rules::NODE_CEILING;
 ghost use mathlib.Core.Path.{_≡_};
 ghost use Rattle.guest.specs.Walked.{marked, copies, onwardOf, Near};
+ghost use Rattle.guest.specs.Measured.{propOf};
 
 // The number of the next node, and how many of the open nodes are not copied.
 pub struct Walk {
@@ -15,13 +17,10 @@ pub struct Walk {
 fn marked(work: &[u32], i: usize) -> bool
     ensures { λ r. ⌜ r ≡ marked (now (work .entry)) i ⌝ }
 {
-    if work.len() <= MARKS_AT {
+    if NODE_CEILING <= i {
         return false;
     }
-    if work.len() - MARKS_AT <= i {
-        return false;
-    }
-    work[MARKS_AT + i] == 1
+    octets::word_of(work, MARKS_AT + i) == 1
 }
 
 // Whether a token is copied.
@@ -80,5 +79,32 @@ pub fn onward(work: &[u32], w: Walk, kind: Kind) -> Walk
             value: _,
         } => w,
         Kind::Nop => w,
+    }
+}
+
+// The offset of a property's name in the host's strings block, if there is one.
+pub enum Named {
+    At(usize),
+    Nothing,
+}
+
+// The name of a token that is a property and copied; Nothing for any other.
+pub fn property_of(kind: Kind, skipped: usize) -> Named
+    ensures { λ r. ⌜ r ≡ propOf skipped kind ⌝ }
+{
+    match kind {
+        Kind::Prop {
+            len: _,
+            name,
+            value: _,
+        } => {
+            if skipped == 0 {
+                return Named::At(name);
+            }
+            Named::Nothing
+        }
+        Kind::Begin { len: _ } => Named::Nothing,
+        Kind::EndNode => Named::Nothing,
+        Kind::Nop => Named::Nothing,
     }
 }

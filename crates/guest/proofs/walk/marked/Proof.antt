@@ -1,5 +1,4 @@
--- `marked` meets its contract: past the end no node is marked.
-use mathlib.Core.Path.{sym}
+-- `marked` meets its contract: past the ceiling no node is marked.
 use native.Mathlib.Omega.{arith}
 use denote.Ref.{now}
 use Rattle.guest.proofs.Marks.{mark-here, mark-past}
@@ -8,25 +7,16 @@ use Rattle.guest.proofs.walk.marked.Statement.{statement}
 use Rattle.guest.proofs.walk.marked.Tie as tie
 
 returns : tie.Need-returns
-returns c = sym (mark-past (now (c .before .args .work)) (c .before .args .i) (omega arith))
+returns c = mark-past (now (c .before .before .args .work)) (c .before .before .args .i) (omega arith)
 
-sub-if2 : tie.Need-sub-if2
-sub-if2 c = search needs
+add-word-of : tie.Need-add-word-of
+add-word-of c = search needs
+
+word-of-requires : tie.Need-word-of-requires
+word-of-requires c κs = search needs
 
 returns-2 : tie.Need-returns-2
-returns-2 c = sym (mark-past (now (c .before .before .args .work)) (c .before .before .args .i) (omega arith))
-
-add-result : tie.Need-add-result
-add-result c = search needs
-
-mul-result : tie.Need-mul-result
-mul-result c = search needs
-
-shared-slice-read-result : tie.Need-shared-slice-read-result
-shared-slice-read-result c = search needs
-
-returns-3 : tie.Need-returns-3
-returns-3 c = sym (mark-here (now (c .before .before .before .args .work)) (c .before .before .before .args .i))
+returns-2 c = mark-here (now (c .before .before .before .args .work)) (c .before .before .before .args .i) (c .word-of .result) (omega arith) (c .word-of .ensures)
 
 pub marked-spec : {M : Type 1} → statement M
-marked-spec = tie.close (tie.spec returns sub-if2 returns-2 add-result mul-result shared-slice-read-result returns-3)
+marked-spec = tie.close (tie.spec returns add-word-of word-of-requires returns-2)
