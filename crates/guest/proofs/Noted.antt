@@ -2,26 +2,28 @@
 use mathlib.Core.Path.{_≡_, refl, sym, ap, _∙_}
 use mathlib.Core.Logic.{inl, inr}
 use mathlib.Core.Bool.{Bool, true, false, _||_}
-use mathlib.Core.List.{List, [], _∷_, _++_}
+use mathlib.Core.List.{List, [], _∷_, _++_, append-nil}
 use Prim.Native.Nat.{ℕ, zero, suc, _+_, _-_, _≤_, _<_}
 use native.Mathlib.Omega.{arith}
 use native.Mathlib.Numerals.{add-one}
 use lib.Dec.{ltb}
-use lib.ListN.{length, getD, take, drop, length-take, drop-of-length-le}
+use lib.ListN.{length, getD, take, drop, length-take, length-drop, drop-of-length-le}
 use lib.Seq.{length-take-le}
 use borrow.Author.Tests.{lt-ltb, le-ltb, ltb-true, ltb-false}
 use Rattle.rules.specs.Ceilings.{nodeCeiling, nodeWords, workWords}
 use Rattle.rules.specs.Space.{tableWords, marksAt, listAt, stackAt}
 use Rattle.rules.specs.Octets.{Bytes, if_then_else_, nulIn, lay, same}
 use Rattle.rules.specs.Events.{stringAt}
+use Rattle.rules.specs.declared.Kind.{Kind}
+use Rattle.rules.specs.declared.Kind.the-variants.{Begin, EndNode, Prop, Nop}
 use Rattle.rules.specs.Laws.Tests.{by-test, never, or-cases, or-left, or-right, not-passed, both-ways, or-nothing, false-or}
 use Rattle.rules.specs.Laws.Octets.{same-eq, same-refl, nul-le, length-lay, lay-one-same, lay-one-other}
 use Rattle.rules.specs.Laws.Kept.{list-behind, stack-behind}
 use Rattle.guest.specs.declared.walk.Named.{Named}
 use Rattle.guest.specs.declared.walk.Named.the-variants.{At, Nothing}
 use Rattle.guest.specs.declared.measured.Sum.{Sum}
-use Rattle.guest.specs.Walked.{marked, Kept}
-use Rattle.guest.specs.Measured.{isIn, nameAt, isNamed, lessOne, inTable, tableRoom, Tabled, growthOf, enterCount, enterWords, Entered}
+use Rattle.guest.specs.Walked.{marked, copies, Kept}
+use Rattle.guest.specs.Measured.{isIn, propOf, nameAt, isNamed, lessOne, inTable, tableRoom, Tabled, growthOf, enterCount, enterWords, Entered}
 
 -- ---- one of names
 
@@ -223,3 +225,50 @@ module _ (strings : Bytes) (ws : List ℕ) (n : ℕ) (done : List Bytes) (t : Ta
   pub known-not : (r : Bool) → r ≡ inTable strings ws n x → r ≡ false → n < 4096 → false ≡ isIn x done
   unfolding tableRoom stackAt listAt marksAt tableWords nodeCeiling nodeWords workWords
   known-not r e f h = sym (not-passed (isIn x done) (λ g. never (inTable strings ws n x) (t .all h x g) (sym e ∙ f)))
+
+-- ---- the sums behind a name
+
+module _ (t : Bytes) (ws : List ℕ) (done : List Bytes) (sum : Sum) (tb : Tabled t ws (sum .names) done) where
+  pub entered-none : Entered t ws ws done sum sum Nothing
+  unfolding growthOf
+  entered-none = record { strings = omega arith; props = omega arith; tabled = rw append-nil tb; kept = kept-same ws }
+
+  pub entered-known : (offset : ℕ) → isIn (stringAt t offset) done ≡ true
+      → Entered t ws ws done sum (record { structure = sum .structure; strings = sum .strings; props = sum .props + 1; names = sum .names }) (At offset)
+  entered-known offset h = record {
+    strings = omega (arith, growth-known (stringAt t offset) done h);
+    props = refl;
+    tabled = tabled-known t ws (sum .names) done tb (stringAt t offset) h;
+    kept = kept-same ws;
+  }
+
+  pub entered-new : (offset : ℕ) → isIn (stringAt t offset) done ≡ false → (len : ℕ) → len ≡ nulIn (drop offset t)
+      → (o : ℕ) → stringAt t o ≡ stringAt t offset → (names : ℕ) (vs : List ℕ) → names ≡ enterCount (sum .names) → vs ≡ enterWords ws (sum .names) o
+      → Entered t ws vs done sum (record { structure = sum .structure; strings = sum .strings + len + 1; props = sum .props + 1; names = names }) (At offset)
+  entered-new offset h len l o q names vs n v = record {
+    strings = omega (arith, growth-new (stringAt t offset) done h, length-string t offset, l);
+    props = refl;
+    tabled = rw (n, v) (tabled-new t ws (sum .names) done tb (stringAt t offset) o q);
+    kept = rw v (kept-enter ws (sum .names) o);
+  }
+
+-- a token that is not copied has no name
+pub not-copied : (k : ℕ → Bool) (n s : ℕ) (kind : Kind) → copies k n s kind ≡ false → propOf s kind ≡ Nothing
+not-copied k n s (Begin len) h = refl
+not-copied k n s EndNode h = refl
+not-copied k n s (Prop len name value) h = rw h
+not-copied k n s Nop h = refl
+
+pub nul-small : (t : Bytes) (o n : ℕ) → n ≡ nulIn (drop o t) → n ≤ length t
+nul-small t o n e = omega (arith, e, nul-le (drop o t), length-drop o t)
+
+-- the structure's part of the sums does not matter to the names
+abbrev pub grown : Sum → ℕ → Sum
+grown sum x = record { structure = x; strings = sum .strings; props = sum .props; names = sum .names }
+
+module _ (t : Bytes) (ws vs : List ℕ) (done : List Bytes) (sum r : Sum) (p : Named) (x : ℕ) where
+  pub entered-behind : Entered t ws vs done (grown sum x) r p → Entered t ws vs done sum r p
+  entered-behind e = record { strings = e .strings; props = e .props; tabled = e .tabled; kept = e .kept }
+
+  pub entered-before : Entered t ws vs done sum r p → Entered t ws vs done sum (grown r x) p
+  entered-before e = record { strings = e .strings; props = e .props; tabled = e .tabled; kept = e .kept }
