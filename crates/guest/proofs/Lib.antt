@@ -3,3 +3,5 @@ pub mod Marks
 pub mod Sifts
 pub mod Noted
 pub mod Turns
+pub mod Grown
+pub mod Counted

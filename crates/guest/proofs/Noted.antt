@@ -36,7 +36,7 @@ in-one : (x y : Bytes) → isIn x (y ∷ []) ≡ same x y
 unfolding isIn
 in-one x y = or-nothing (same x y)
 
-in-snoc : (x : Bytes) (a : List Bytes) (y : Bytes) → isIn x (a ++ y ∷ []) ≡ (isIn x a || same x y)
+pub in-snoc : (x : Bytes) (a : List Bytes) (y : Bytes) → isIn x (a ++ y ∷ []) ≡ (isIn x a || same x y)
 in-snoc x a y = in-append x a (y ∷ []) ∙ ap (λ (t : Bool). isIn x a || t) (in-one x y)
 
 -- what is there stays there
@@ -171,7 +171,7 @@ kept-marked ws vs k = λ i j. mark-kept ws vs k j i
 
 -- ---- what a name adds
 
-length-string : (strings : Bytes) (o : ℕ) → length (stringAt strings o) ≡ nulIn (drop o strings)
+pub length-string : (strings : Bytes) (o : ℕ) → length (stringAt strings o) ≡ nulIn (drop o strings)
 unfolding stringAt
 length-string strings o = length-take-le (nulIn (drop o strings)) (drop o strings) (nul-le (drop o strings))
 
@@ -272,3 +272,8 @@ module _ (t : Bytes) (ws vs : List ℕ) (done : List Bytes) (sum r : Sum) (p : N
 
   pub entered-before : Entered t ws vs done sum r p → Entered t ws vs done sum (grown r x) p
   entered-before e = record { strings = e .strings; props = e .props; tabled = e .tabled; kept = e .kept }
+
+pub growth-one : (t : Bytes) (done : List Bytes) (o : ℕ) → growthOf done (stringAt t o ∷ []) ≤ length t + 1
+growth-one t done o = by-test (isIn (stringAt t o) done)
+    (λ e. omega (arith, growth-known (stringAt t o) done e))
+    (λ e. omega (arith, growth-new (stringAt t o) done e, length-string t o, nul-small t o (nulIn (drop o t)) refl))
