@@ -5,3 +5,4 @@ pub mod Noted
 pub mod Turns
 pub mod Grown
 pub mod Counted
+pub mod Sieved

@@ -27,22 +27,15 @@ use Rattle.rules.specs.Laws.Events.{eventsAt, events-all, events-item, events-e
 use Rattle.rules.specs.Laws.Writer.{length-begin, length-end, length-property}
 use Rattle.guest.specs.declared.walk.Named.{Named}
 use Rattle.guest.specs.declared.walk.Named.the-variants.{At, Nothing}
-use Rattle.guest.specs.Walked.{blockOf, marked, copies, nextOf, skippedOf, sift}
+use Rattle.guest.specs.Walked.{blockOf, marked, copies, nextOf, skippedOf, heard, sift}
 use Rattle.guest.specs.Measured.{namesOf, namesIn, propOf, nameAt, structureSize}
 
 -- ---- the copy from a place on
 
--- what a token says; a NOP says nothing, and is never copied
-abbrev pub heard : Block → ℕ → Kind → Event
-heard b at (Begin len) = opens (b .place + at) (nodeNameAt (b .structure) at len)
-heard b at EndNode = closes (b .place + at)
-heard b at (Prop len name value) = has (record { place = b .place + at; name = stringAt (b .strings) name; value = part (b .structure) value len })
-heard b at Nop = closes (b .place + at)
-
 abbrev pub restAt : (ℕ → Bool) → Block → (at n s : ℕ) → List Event
 restAt k b at n s = sift k n s (eventsAt b at)
 
-sift-said : (k : ℕ → Bool) (b : Block) (at n s : ℕ) (kind : Kind) (next : ℕ) (es : List Event)
+pub sift-said : (k : ℕ → Bool) (b : Block) (at n s : ℕ) (kind : Kind) (next : ℕ) (es : List Event)
     → sift k n s (saying b at (Item kind next) es) ≡ when (copies k n s kind) (heard b at kind) (sift k (nextOf n kind) (skippedOf k n s kind) es)
 unfolding sift
 sift-said k b at n s (Begin len) next es = refl

@@ -55,6 +55,13 @@ onwardOf k w kind = record { next = nextOf (w .next) kind; skipped = skippedOf k
 
 -- ---- what is copied
 
+-- what a token says; a NOP says nothing, and is never copied
+abbrev pub heard : Block → ℕ → Kind → Event
+heard b at (Begin len) = opens (b .place + at) (nodeNameAt (b .structure) at len)
+heard b at EndNode = closes (b .place + at)
+heard b at (Prop len name value) = has (record { place = b .place + at; name = stringAt (b .strings) name; value = part (b .structure) value len })
+heard b at Nop = closes (b .place + at)
+
 -- the sieve, with the number of open nodes that are not copied in place of the open nodes
 unfoldable pub sift : (ℕ → Bool) → (n s : ℕ) → List Event → List Event
 sift k n s [] = []
