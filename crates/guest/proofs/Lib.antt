@@ -6,3 +6,6 @@ pub mod Turns
 pub mod Grown
 pub mod Counted
 pub mod Sieved
+pub mod Regions
+pub mod Filled
+pub mod Closed

@@ -18,6 +18,10 @@ use Rattle.guest.specs.Walked.{blockOf, copies, heard}
 abbrev pub blocksIn : (n : ℕ) → Bytes → Size → Blocks
 blocksIn n g done = record { structure = part g 56 (done .structure); strings = part g n (done .strings) }
 
+-- how long they are
+abbrev pub sizeOf : Blocks → Size
+sizeOf w = record { structure = length (w .structure); strings = length (w .strings) }
+
 -- an event, where it is copied
 abbrev pub wrote : Bool → Blocks → Event → Blocks
 wrote true w e = writeEvent w e

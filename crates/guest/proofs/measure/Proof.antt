@@ -6,6 +6,7 @@ use lib.ListN.{length}
 use denote.Ref.{now}
 use Rattle.rules.specs.Laws.Tokens.{item-ahead}
 use Rattle.guest.proofs.Counted.{Measures, measures-start, measures-low, measures-near, measures-room, measures-stop, measures-on}
+use Rattle.guest.proofs.Closed.{sized-sieved}
 use borrow.Author.Needs.{needs}
 use Rattle.guest.proofs.measure.Statement.{statement}
 use Rattle.guest.proofs.measure.Tie as tie
@@ -29,7 +30,9 @@ same-length : tie.Need-same-length Inv-loop μ-loop
 same-length c = search needs
 
 returns : tie.Need-returns Inv-loop μ-loop
-returns c = (measures-stop (now (c .before .before .before .before .before .before .args .structure)) (now (c .before .before .before .before .before .before .args .strings)) (now (c .before .before .before .before .before .before .args .work)) (c .before .before .loop .work) (c .before .before .loop .at) (c .before .before .loop .walk) (c .before .before .loop .sum) (c .before .before .loop .inv) (c .before .before .before .before .before .before .pre .0) (c .before .before .before .before .before .before .pre .1) (c .before .token-at .result) (c .before .token-at .ensures) (c .match .keys2), c .before .before .loop .inv .kept)
+returns c =
+    let z = measures-stop (now (c .before .before .before .before .before .before .args .structure)) (now (c .before .before .before .before .before .before .args .strings)) (now (c .before .before .before .before .before .before .args .work)) (c .before .before .loop .work) (c .before .before .loop .at) (c .before .before .loop .walk) (c .before .before .loop .sum) (c .before .before .loop .inv) (c .before .before .before .before .before .before .pre .0) (c .before .before .before .before .before .before .pre .1) (c .before .token-at .result) (c .before .token-at .ensures) (c .match .keys2) in
+    (z, (c .before .before .loop .inv .kept, λ place ready. sized-sieved place (now (c .before .before .before .before .before .before .args .structure)) (now (c .before .before .before .before .before .before .args .strings)) (now (c .before .before .before .before .before .before .args .work)) (c .before .before .loop .work) _ (c .before .before .loop .inv .kept) z ready))
 
 sub-turn : tie.Need-sub-turn Inv-loop μ-loop
 sub-turn c = omega (arith, item-ahead (now (c .before .before .before .before .before .before .before .before .before .args .structure)) (c .before .before .before .before .before .loop .at) (c .before .before .before .before .token-at .result) (c .before .before .kind .given .0 .0) (c .before .before .kind .given .0 .1 .0) (c .before .before .before .before .token-at .ensures) (c .before .before .kind .given .1))
