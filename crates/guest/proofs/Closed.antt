@@ -4,9 +4,8 @@ use mathlib.Core.List.{List, [], _∷_, _++_, append-assoc}
 use Prim.Native.Nat.{ℕ, _+_, _-_, _%_, _≤_, _<_}
 use native.Mathlib.Omega.{arith}
 use lib.ListN.{length, take, drop, length-append, take-append-drop}
-use Rattle.rules.specs.Octets.{Bytes, be32, be64, words32, zeros, part, put, lay}
-use Rattle.rules.specs.Reservations.{entryBytes, block}
-use Rattle.rules.specs.Writer.{headerBytes, startBytes}
+use Rattle.rules.specs.Octets.{Bytes, be32, words32, zeros, part, put, lay}
+use Rattle.rules.specs.Writer.{headerBytes}
 use Rattle.rules.specs.Written.{Blocks, writeEvents, blobWith, blobOf}
 use Rattle.rules.specs.Laws.Octets.{length-part, part-part, length-lay, length-be32, length-zeros}
 use Rattle.rules.specs.Laws.Writer.{be32-low}
@@ -15,6 +14,7 @@ use Rattle.guest.specs.declared.Size.{Size}
 use Rattle.guest.specs.Walked.{marked, blank, copyOf, sieved, Ready, Kept}
 use Rattle.guest.specs.Measured.{Sized}
 use Rattle.guest.specs.Laid.{blocksIn, sizeOf, Lays}
+use Rattle.guest.specs.Finished.{headOf, blob-is, blob-length}
 use Rattle.guest.proofs.Noted.{kept-marked}
 use Rattle.guest.proofs.Sieved.{copy-sieved}
 use Rattle.guest.proofs.Regions.{part-before, part-behind, part-same, drop-behind}
@@ -31,37 +31,7 @@ sized-sieved place s t ws vs r k z y =
     let e : copyOf s t vs ≡ writeEvents blank (sieved place s t ws) = copy-kept s t ws vs k ∙ copy-sieved place s t ws y in
     (z .structure ∙ ap (λ (w : Blocks). length (w .structure)) e, z .strings ∙ ap (λ (w : Blocks). length (w .strings)) e)
 
--- ---- the front of the blob
-
-reserved : block [] ≡ zeros 16
-unfolding block entryBytes be64 be32
-reserved = refl
-
-front-length : length (startBytes []) ≡ 56
-unfolding startBytes
-front-length = omega (arith, length-append (zeros 40) (block []), ap length reserved, length-zeros 40, length-zeros 16)
-
-abbrev headOf : Blocks → Bytes
-headOf w =
-    headerBytes (56 + (length (w .structure) + 4) + length (w .strings)) 56 (56 + (length (w .structure) + 4)) 0 (length (w .strings)) (length (w .structure) + 4)
-
-blob-is : (w : Blocks) → blobWith [] 0 w ≡ headOf w ++ (zeros 16 ++ (w .structure ++ (be32 9 ++ w .strings)))
-unfolding blobWith
-blob-is w = rw (front-length, reserved)
-
-pub blob-length : (w : Blocks) → length (blobWith [] 0 w) ≡ 56 + length (w .structure) + 4 + length (w .strings)
-blob-length w =
-    rw (
-      blob-is w,
-      length-append (headOf w) (zeros 16 ++ (w .structure ++ (be32 9 ++ w .strings))),
-      length-append (zeros 16) (w .structure ++ (be32 9 ++ w .strings)),
-      length-append (w .structure) (be32 9 ++ w .strings),
-      length-append (be32 9) (w .strings),
-      length-header (56 + (length (w .structure) + 4) + length (w .strings)) 56 (56 + (length (w .structure) + 4)) 0 (length (w .strings)) (length (w .structure) + 4),
-      length-zeros 16,
-      length-be32 9,
-    )
-    (omega arith)
+-- ---- the header
 
 -- the words that are laid are those of the header
 pub head-words : (a b c d : ℕ) (w : Blocks) → 56 + (length (w .structure) + 4) + length (w .strings) ≡ a → 56 + (length (w .structure) + 4) ≡ b
@@ -146,9 +116,9 @@ module _ (g : Bytes) (size : Size) (l : 56 + size .structure + 4 + size .strings
         let m : ℕ = length (blobWith [] 0 w) in
         let x : 40 + (16 + (size .structure + (4 + size .strings))) ≡ m = omega (arith, blob-length w, is-structure, is-strings) in
         let y : drop m g₃ ≡ drop m g =
-            ap (drop m) e₃ ∙ drop-behind g₂ 0 head a₃ m (omega (arith, long, blob-length w))
-            ∙ ap (drop m) e₂ ∙ drop-behind g₁ 40 (zeros 16) a₂ m (omega (arith, length-zeros 16, blob-length w))
-            ∙ ap (drop m) e₁ ∙ drop-behind g (56 + size .structure) (be32 9) a₁ m (omega (arith, length-be32 9, blob-length w, is-structure)) in
+        ap (drop m) e₃ ∙ drop-behind g₂ 0 head a₃ m (omega (arith, long, blob-length w))
+        ∙ ap (drop m) e₂ ∙ drop-behind g₁ 40 (zeros 16) a₂ m (omega (arith, length-zeros 16, blob-length w))
+        ∙ ap (drop m) e₁ ∙ drop-behind g (56 + size .structure) (be32 9) a₁ m (omega (arith, length-be32 9, blob-length w, is-structure)) in
         sym (take-append-drop m g₃) ∙ ap (λ (b : Bytes). b ++ drop m g₃) (ap (λ (k : ℕ). take k g₃) (sym x) ∙ joined) ∙ ap (λ (b : Bytes). blobWith [] 0 w ++ b) y
         ∙ ap (λ (k : ℕ). blobWith [] 0 w ++ drop k g) (let z : m ≡ 0 + m = omega arith in z)
 

@@ -149,7 +149,7 @@ module _ (s t : Bytes) (ws : List ℕ) (n : ℕ) (g₀ : Bytes) (p : n ≡ 56 + 
     unfolding writeEvents
     fills-stop h =
         let y : blocksIn n g done ≡ copyOf s t ws =
-            ap (writeEvents (blocksIn n g done)) (sym (rest-stop (marked ws) (blockOf 0 s t) at (w .next) (w .skipped) (f .inside) r e h)) ∙ f .rest in
+        ap (writeEvents (blocksIn n g done)) (sym (rest-stop (marked ws) (blockOf 0 s t) at (w .next) (w .skipped) (f .inside) r e h)) ∙ f .rest in
         let a : done .structure ≡ length (copyOf s t ws .structure) = sym (begun-structure n g done (f .begun)) ∙ ap (λ (v : Blocks). length (v .structure)) y in
         let c : done .strings ≡ length (copyOf s t ws .strings) = sym (begun-strings n g done (f .begun)) ∙ ap (λ (v : Blocks). length (v .strings)) y in
         record {
@@ -178,7 +178,7 @@ module _ (s t : Bytes) (ws : List ℕ) (n : ℕ) (g₀ : Bytes) (p : n ≡ 56 + 
           let a = item-ahead s at r kind next e q in
           let x = fills-fits in
           let c : n + length (after .strings) ≤ n + length (copyOf s t ws .strings) =
-              omega (arith, strings-grow after (restAt (marked ws) (blockOf 0 s t) next (onwardOf (marked ws) w kind .next) (onwardOf (marked ws) w kind .skipped)), ap (λ (v : Blocks). length (v .strings)) rest-on) in
+          omega (arith, strings-grow after (restAt (marked ws) (blockOf 0 s t) next (onwardOf (marked ws) w kind .next) (onwardOf (marked ws) w kind .skipped)), ap (λ (v : Blocks). length (v .strings)) rest-on) in
           record {
             inside = a .1;
             behind = walk-behind (marked ws) w u kind at next o (f .behind) (a .0);

@@ -117,11 +117,11 @@ module _ (n : ℕ) (g : Bytes) (done : Size) (b : Begun n g done) (name value : 
       let t = le-ltb (nameOffset name u) (length u) (omega (arith, o, begun-strings n g done b)) in
       let v : nameGrowth name u ≡ closed name = rw t in
       let c : Begun n h (record { structure = x; strings = done .strings }) =
-          record { structure = omega (arith, room, q, length-property offset value); strings = omega (arith, b .strings, laid .size) } in
+      record { structure = omega (arith, room, q, length-property offset value); strings = omega (arith, b .strings, laid .size) } in
       let w : n + done .strings + length (closed name) ≤ length h =
-          omega (arith, f .strings, laid .size, length-append u (nameGrowth name u), begun-strings n g done b, ap length v) in
+      omega (arith, f .strings, laid .size, length-append u (nameGrowth name u), begun-strings n g done b, ap length v) in
       let s = lays-strings n h (record { structure = x; strings = done .strings }) c (closed name) j k w (done .strings + length name + 1)
-          (omega (arith, length-closed name)) in
+      (omega (arith, length-closed name)) in
       rw (t, ← o)
       (record {
         blocks = s .blocks ∙ (λ i. record { structure = laid .blocks i .structure; strings = laid .blocks i .strings ++ closed name });

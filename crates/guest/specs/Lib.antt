@@ -2,3 +2,5 @@
 pub mod Walked
 pub mod Measured
 pub mod Laid
+pub mod Finished
+pub mod Marking

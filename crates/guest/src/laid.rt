@@ -27,13 +27,7 @@ const RESERVED: usize = 16;
 pub const FRONT: usize = FDT_HEADER_SIZE + RESERVED;
 
 // Lays a property of the copy: its name, where no property before had it, and the property. The strings begin at n.
-fn property(
-    guest: &mut [u8],
-    n: usize,
-    done: Size,
-    name: &[u8],
-    value: &[u8],
-) -> Size
+fn property(guest: &mut [u8], n: usize, done: Size, name: &[u8], value: &[u8]) -> Size
     requires { ⌜ Begun n (now guest) done × Fits n (now guest) (withProperty (blocksIn n (now guest) done) (now name) (now value)) ⌝ }
     ensures { λ r. ⌜ Lays n (now (guest .entry)) (now (guest .exit)) r (withProperty (blocksIn n (now (guest .entry)) done) (now (name .entry)) (now (value .entry))) ⌝ }
 {

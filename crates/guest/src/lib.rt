@@ -4,6 +4,7 @@ mod laid;
 mod measured;
 mod names;
 mod walk;
+
 use laid::FRONT;
 use laid::close;
 use laid::lay;
@@ -14,7 +15,7 @@ use walk::Walk;
 use walk::onward;
 ghost use mathlib.Core.Path.{_≡_};
 ghost use mathlib.Core.List.{[]};
-ghost use Prim.Native.Nat.{ℕ, _+_, _≤_};
+ghost use Prim.Native.Nat.{ℕ, _+_, _*_, _≤_};
 ghost use lib.ListN.{length};
 ghost use Rattle.rules.specs.Ceilings.{blobCeiling, workWords};
 ghost use Rattle.rules.specs.Octets.{put};
@@ -35,6 +36,7 @@ pub fn measure(structure: &[u8], strings: &[u8], work: &mut [u32]) -> Size
     requires { ⌜ (length (now structure) ≤ blobCeiling) × (length (now strings) ≤ blobCeiling) × (workWords ≤ length (now work)) ⌝ }
     ensures sized { λ r. ⌜ Sized (now (structure .entry)) (now (strings .entry)) (now (work .exit)) r ⌝ }
     ensures kept { λ _. ⌜ Kept (now (work .entry)) (now (work .exit)) ⌝ }
+    ensures small { λ r. ⌜ (r .structure ≤ blobCeiling) × (r .strings ≤ blobCeiling * (blobCeiling + 1)) ⌝ }
     ensures sieved { λ r. ⌜ ((place : ℕ) → Ready place (now (structure .entry)) (now (strings .entry)) (now (work .entry)) → (r .structure ≡ length (writeEvents blank (sieved place (now (structure .entry)) (now (strings .entry)) (now (work .entry))) .structure)) × (r .strings ≡ length (writeEvents blank (sieved place (now (structure .entry)) (now (strings .entry)) (now (work .entry))) .strings))) ⌝ }
 {
     let mut at = 0;
@@ -87,13 +89,7 @@ fn blocks(structure: &[u8], strings: &[u8], work: &[u32], guest: &mut [u8], n: u
 
 // Writes the copy of the nodes that the marks name, whose sizes were measured, to the front of the guest, which has room for it.
 // Its length is 56 + size.structure + 4 + size.strings; what stands behind it in the buffer stays.
-pub fn write(
-    structure: &[u8],
-    strings: &[u8],
-    work: &[u32],
-    guest: &mut [u8],
-    size: Size,
-)
+pub fn write(structure: &[u8], strings: &[u8], work: &[u32], guest: &mut [u8], size: Size)
     requires { ⌜ (length (now structure) ≤ blobCeiling) × Sized (now structure) (now strings) (now work) size × (56 + size .structure + 4 + size .strings ≤ length (now guest)) ⌝ }
     ensures { λ _. ⌜ ((place : ℕ) → Ready place (now (structure .entry)) (now (strings .entry)) (now (work .entry)) → now (guest .exit) ≡ put (now (guest .entry)) 0 (blobOf [] 0 (sieved place (now (structure .entry)) (now (strings .entry)) (now (work .entry))))) ⌝ }
 {

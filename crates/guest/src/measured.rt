@@ -51,13 +51,7 @@ fn enter(work: &mut [u32], names: usize, offset: u32) -> usize
 }
 
 // The sums behind a copied property with the name at this offset.
-fn entered(
-    structure: &[u8],
-    strings: &[u8],
-    work: &mut [u32],
-    sum: Sum,
-    offset: usize,
-) -> Sum
+fn entered(structure: &[u8], strings: &[u8], work: &mut [u32], sum: Sum, offset: usize) -> Sum
     requires { ⌜ (length (now structure) ≤ blobCeiling) × (length (now strings) ≤ blobCeiling) × Low sum ⌝ }
     requires { ⌜ Tabled (now strings) (now work) (sum .names) (take (sum .props) (namesIn (now structure) (now strings) (now work))) ⌝ }
     ensures { λ r. ⌜ (r .structure ≡ sum .structure) × Entered (now (strings .entry)) (now (work .entry)) (now (work .exit)) (take (sum .props) (namesIn (now (structure .entry)) (now (strings .entry)) (now (work .entry)))) sum r (At offset) ⌝ }

@@ -78,13 +78,7 @@ fn left_behind(property: Named, left: usize) -> usize
 }
 
 // Whether one of the first `props` copied properties has this name.
-fn earlier(
-    structure: &[u8],
-    strings: &[u8],
-    work: &[u32],
-    props: usize,
-    name: &[u8],
-) -> bool
+fn earlier(structure: &[u8], strings: &[u8], work: &[u32], props: usize, name: &[u8]) -> bool
     requires { ⌜ length (now structure) ≤ blobCeiling ⌝ }
     ensures { λ r. ⌜ r ≡ isIn (now (name .entry)) (take props (namesIn (now (structure .entry)) (now (strings .entry)) (now (work .entry)))) ⌝ }
 {

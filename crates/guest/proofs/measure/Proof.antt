@@ -32,7 +32,8 @@ same-length c = search needs
 returns : tie.Need-returns Inv-loop μ-loop
 returns c =
     let z = measures-stop (now (c .before .before .before .before .before .before .args .structure)) (now (c .before .before .before .before .before .before .args .strings)) (now (c .before .before .before .before .before .before .args .work)) (c .before .before .loop .work) (c .before .before .loop .at) (c .before .before .loop .walk) (c .before .before .loop .sum) (c .before .before .loop .inv) (c .before .before .before .before .before .before .pre .0) (c .before .before .before .before .before .before .pre .1) (c .before .token-at .result) (c .before .token-at .ensures) (c .match .keys2) in
-    (z, (c .before .before .loop .inv .kept, λ place ready. sized-sieved place (now (c .before .before .before .before .before .before .args .structure)) (now (c .before .before .before .before .before .before .args .strings)) (now (c .before .before .before .before .before .before .args .work)) (c .before .before .loop .work) _ (c .before .before .loop .inv .kept) z ready))
+    let y = measures-low (now (c .before .before .before .before .before .before .args .structure)) (now (c .before .before .before .before .before .before .args .strings)) (now (c .before .before .before .before .before .before .args .work)) (c .before .before .loop .work) (c .before .before .loop .at) (c .before .before .loop .walk) (c .before .before .loop .sum) (c .before .before .loop .inv) (c .before .before .before .before .before .before .pre .0) (c .before .before .before .before .before .before .pre .1) (c .before .token-at .result) (c .before .token-at .ensures) in
+    (z, (c .before .before .loop .inv .kept, ((y .structure, y .strings), λ place ready. sized-sieved place (now (c .before .before .before .before .before .before .args .structure)) (now (c .before .before .before .before .before .before .args .strings)) (now (c .before .before .before .before .before .before .args .work)) (c .before .before .loop .work) _ (c .before .before .loop .inv .kept) z ready)))
 
 sub-turn : tie.Need-sub-turn Inv-loop μ-loop
 sub-turn c = omega (arith, item-ahead (now (c .before .before .before .before .before .before .before .before .before .args .structure)) (c .before .before .before .before .before .loop .at) (c .before .before .before .before .token-at .result) (c .before .before .kind .given .0 .0) (c .before .before .kind .given .0 .1 .0) (c .before .before .before .before .token-at .ensures) (c .before .before .kind .given .1))
