@@ -1,9 +1,9 @@
 -- The copy as a blob: what is laid in the end, and that it is the guest of the sieve.
-use mathlib.Core.Path.{_≡_, refl, sym, ap, _∙_}
-use mathlib.Core.List.{List, [], _∷_, _++_, append-assoc}
-use Prim.Native.Nat.{ℕ, _+_, _-_, _%_, _≤_, _<_}
+use mathlib.Core.Path.{_≡_, sym, ap, _∙_}
+use mathlib.Core.List.{List, [], _∷_, _++_}
+use Prim.Native.Nat.{ℕ, _+_, _-_, _%_, _≤_}
 use native.Mathlib.Omega.{arith}
-use lib.ListN.{length, take, drop, length-append, take-append-drop}
+use lib.ListN.{length, take, drop, take-append-drop}
 use Rattle.rules.specs.Octets.{Bytes, be32, words32, zeros, part, put, lay}
 use Rattle.rules.specs.Writer.{headerBytes}
 use Rattle.rules.specs.Written.{Blocks, writeEvents, blobWith, blobOf}
@@ -11,7 +11,7 @@ use Rattle.rules.specs.Laws.Octets.{length-part, part-part, length-lay, length-
 use Rattle.rules.specs.Laws.Writer.{be32-low}
 use Rattle.rules.specs.Laws.Header.{length-header}
 use Rattle.guest.specs.declared.Size.{Size}
-use Rattle.guest.specs.Walked.{marked, blank, copyOf, sieved, Ready, Kept}
+use Rattle.guest.specs.Walked.{blank, copyOf, sieved, Ready, Kept}
 use Rattle.guest.specs.Measured.{Sized}
 use Rattle.guest.specs.Laid.{blocksIn, sizeOf, Lays}
 use Rattle.guest.specs.Finished.{headOf, blob-is, blob-length}

@@ -1,11 +1,10 @@
 -- The invariant of `measure`: the sums so far, and what the rest adds to them, are those of the whole copy.
 use mathlib.Core.Path.{_≡_, refl, sym, ap, _∙_}
-use mathlib.Core.Bool.{Bool, true, false}
+use mathlib.Core.Bool.{Bool}
 use mathlib.Core.List.{List, [], _∷_, _++_, append-assoc, append-nil}
-use Prim.Native.Nat.{ℕ, zero, suc, _+_, _-_, _*_, _≤_, _<_}
+use Prim.Native.Nat.{ℕ, _+_, _-_, _*_, _≤_}
 use native.Mathlib.Omega.{arith}
-use native.Mathlib.Nat.{add-zero}
-use lib.ListN.{length, take, drop, length-append}
+use lib.ListN.{length, take, drop}
 use lib.Seq.{take-add, take-at, drop-at, drop-drop}
 use types.Run.{OneOf}
 use denote.Enum.Declared.{tagOf}
@@ -25,10 +24,10 @@ use Rattle.guest.specs.declared.walk.Walk.{Walk}
 use Rattle.guest.specs.declared.walk.Named.{Named}
 use Rattle.guest.specs.declared.walk.Named.the-variants.{At, Nothing}
 use Rattle.guest.specs.declared.measured.Sum.{Sum}
-use Rattle.guest.specs.Walked.{blockOf, marked, copies, onwardOf, sift, copyOf, Kept, Near}
-use Rattle.guest.specs.Measured.{isIn, namesIn, propOf, nameAt, inTable, tableRoom, Tabled, growthOf, structureSize, Low, Entered, Sized}
-use Rattle.guest.proofs.Sifts.{restAt, sizeAt, size-item, size-stop, names-all, names-item, names-stop}
-use Rattle.guest.proofs.Noted.{length-string, nul-small, kept-same, kept-trans, kept-marked, growth-one}
+use Rattle.guest.specs.Walked.{blockOf, marked, copies, onwardOf, sift, Kept, Near}
+use Rattle.guest.specs.Measured.{isIn, namesIn, propOf, nameAt, inTable, Tabled, growthOf, structureSize, Low, Entered, Sized}
+use Rattle.guest.proofs.Sifts.{sizeAt, size-item, size-stop, names-all, names-item, names-stop}
+use Rattle.guest.proofs.Noted.{kept-same, kept-trans, kept-marked, growth-one}
 use Rattle.guest.proofs.Turns.{Behind, walk-behind, namesFrom}
 use Rattle.guest.proofs.Grown.{copy-structure, copy-strings}
 

@@ -1,10 +1,10 @@
 -- A token laid into the guest, and the walk that lays them all.
-use mathlib.Core.Path.{_≡_, refl, sym, ap, _∙_, subst}
+use mathlib.Core.Path.{_≡_, refl, sym, ap, _∙_}
 use mathlib.Core.Bool.{Bool, true, false}
 use mathlib.Core.List.{List, [], _∷_, _++_}
-use Prim.Native.Nat.{ℕ, _+_, _-_, _/_, _*_, _≤_, _<_}
+use Prim.Native.Nat.{ℕ, _+_, _-_, _/_, _*_, _≤_}
 use native.Mathlib.Omega.{arith}
-use lib.ListN.{length, take, drop, length-append}
+use lib.ListN.{length, drop, length-append}
 use types.Run.{OneOf}
 use denote.Enum.Declared.{tagOf}
 use Rattle.rules.proofs.Token as tokened
@@ -12,7 +12,7 @@ use Rattle.rules.specs.Ceilings.{blobCeiling}
 use Rattle.rules.specs.Octets.{Bytes, part, lay}
 use Rattle.rules.specs.Blob.{Block}
 use Rattle.rules.specs.Tokens.{tokenAt}
-use Rattle.rules.specs.Events.{Event, opens, has, closes, nodeNameAt, stringAt, eventsIn}
+use Rattle.rules.specs.Events.{Event, opens, has, closes, nodeNameAt, stringAt}
 use Rattle.rules.specs.Writer.{beginBytes, endBytes, nameGrowth}
 use Rattle.rules.specs.Written.{Blocks, writeEvent, writeEvents}
 use Rattle.rules.specs.declared.Token.{Token}
@@ -26,7 +26,6 @@ use Rattle.rules.specs.Laws.Writer.{length-begin, length-end}
 use Rattle.guest.specs.declared.walk.Walk.{Walk}
 use Rattle.guest.specs.declared.Size.{Size}
 use Rattle.guest.specs.Walked.{blockOf, marked, copies, onwardOf, heard, sift, blank, copyOf, Near}
-use Rattle.guest.specs.Measured.{structureSize}
 use Rattle.guest.specs.Laid.{blocksIn, sizeOf, wrote, withProperty, Fits, Begun, Lays}
 use Rattle.guest.proofs.Sifts.{restAt, rest-item, rest-stop}
 use Rattle.guest.proofs.Turns.{Behind, walk-behind}

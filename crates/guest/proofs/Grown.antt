@@ -3,9 +3,9 @@ use mathlib.Core.Path.{_≡_, refl, sym, ap, _∙_}
 use mathlib.Core.Bool.{Bool, true, false, _&&_, _||_}
 use mathlib.Core.List.{List, [], _∷_, _++_, append-assoc, append-nil, List·Memᴰ·head, List·Memᴰ·tail, List·Memᴰ·cases-cons, List·Memᴰ·not-nil}
 use mathlib.Core.Logic.{inl, inr}
-use Prim.Native.Nat.{ℕ, zero, suc, _+_, _-_, _≤_, _<_}
+use Prim.Native.Nat.{ℕ, _+_, _-_, _<_}
 use native.Mathlib.Omega.{arith}
-use lib.Dec.{eqb, ltb}
+use lib.Dec.{eqb}
 use lib.ListN.{length, take, drop, length-append}
 use lib.Seq.{drop-at, take-nil}
 use borrow.Author.Tests.{ne-eqb, eqb-true, eqb-false, lt-ltb, le-ltb}
@@ -20,9 +20,9 @@ use Rattle.rules.specs.Listing.{_∈_}
 use Rattle.rules.specs.declared.Token.{Token}
 use Rattle.rules.specs.declared.Token.the-variants.{Item, End, Cut}
 use Rattle.rules.specs.declared.Kind.the-variants.{Begin, EndNode, Prop, Nop}
-use Rattle.rules.specs.Laws.Tests.{by-test, or-left, or-right, or-nothing}
+use Rattle.rules.specs.Laws.Tests.{by-test, or-nothing}
 use Rattle.rules.specs.Laws.Octets.{same-eq, nul-first, nul-cons}
-use Rattle.rules.specs.Laws.Writer.{length-begin, length-end, length-property, name-here, name-past}
+use Rattle.rules.specs.Laws.Writer.{length-property, name-here, name-past}
 use Rattle.rules.specs.Laws.Encoded.{nul-name}
 use Rattle.guest.specs.Walked.{blockOf, marked, sift, blank, copyOf}
 use Rattle.guest.specs.Measured.{isIn, namesOf, namesIn, growthOf, structureSize}

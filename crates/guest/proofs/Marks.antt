@@ -1,18 +1,18 @@
 -- The marks in the work space.
-use mathlib.Core.Path.{_≡_, refl, sym, ap, _∙_}
+use mathlib.Core.Path.{_≡_, sym, _∙_}
 use mathlib.Core.Bool.{Bool, true, false, _&&_}
 use mathlib.Core.List.{List}
 use Prim.Native.Nat.{ℕ, _+_, _-_, _≤_, _<_}
 use native.Mathlib.Omega.{arith}
 use lib.Dec.{eqb}
 use borrow.Author.Tests.{lt-ltb, le-ltb}
-use lib.ListN.{length, getD}
+use lib.ListN.{getD}
 use Rattle.rules.specs.Ceilings.{nodeCeiling, nodeWords}
-use Rattle.rules.specs.Space.{tableWords, marksAt, listAt, stackAt}
+use Rattle.rules.specs.Space.{tableWords, marksAt}
 use Rattle.rules.specs.declared.Kind.{Kind}
-use Rattle.rules.specs.declared.Kind.the-variants.{Begin, EndNode, Prop, Nop}
+use Rattle.rules.specs.declared.Kind.the-variants.{Begin, EndNode}
 use Rattle.guest.specs.declared.walk.Walk.{Walk}
-use Rattle.guest.specs.Walked.{marked, copies, onwardOf, Kept}
+use Rattle.guest.specs.Walked.{marked, copies, onwardOf}
 
 pub mark-here : (ws : List ℕ) (i w : ℕ) → i < 2048 → w ≡ getD ws (8192 + i) 0 → eqb w 1 ≡ marked ws i
 unfolding marked marksAt tableWords nodeCeiling nodeWords

@@ -7,16 +7,16 @@ use Prim.Native.Nat.{ℕ, zero, suc, _+_, _-_, _≤_, _<_}
 use native.Mathlib.Omega.{arith}
 use native.Mathlib.Numerals.{add-one}
 use lib.Dec.{ltb}
-use lib.ListN.{length, getD, take, drop, length-take, length-drop, drop-of-length-le}
+use lib.ListN.{length, getD, take, drop, length-drop, drop-of-length-le}
 use lib.Seq.{length-take-le}
 use borrow.Author.Tests.{lt-ltb, le-ltb, ltb-true, ltb-false}
 use Rattle.rules.specs.Ceilings.{nodeCeiling, nodeWords, workWords}
 use Rattle.rules.specs.Space.{tableWords, marksAt, listAt, stackAt}
-use Rattle.rules.specs.Octets.{Bytes, if_then_else_, nulIn, lay, same}
+use Rattle.rules.specs.Octets.{Bytes, nulIn, lay, same}
 use Rattle.rules.specs.Events.{stringAt}
 use Rattle.rules.specs.declared.Kind.{Kind}
 use Rattle.rules.specs.declared.Kind.the-variants.{Begin, EndNode, Prop, Nop}
-use Rattle.rules.specs.Laws.Tests.{by-test, never, or-cases, or-left, or-right, not-passed, both-ways, or-nothing, false-or}
+use Rattle.rules.specs.Laws.Tests.{by-test, never, or-cases, or-left, or-right, not-passed, or-nothing}
 use Rattle.rules.specs.Laws.Octets.{same-eq, same-refl, nul-le, length-lay, lay-one-same, lay-one-other}
 use Rattle.rules.specs.Laws.Kept.{list-behind, stack-behind}
 use Rattle.guest.specs.declared.walk.Named.{Named}

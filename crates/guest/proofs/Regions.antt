@@ -1,16 +1,16 @@
 -- Two blocks that grow in one buffer: what is laid into one of them leaves the other.
 use mathlib.Core.Path.{_≡_, refl, sym, ap, _∙_}
-use mathlib.Core.List.{List, [], _∷_, _++_, append-nil}
+use mathlib.Core.List.{_++_, append-nil}
 use Prim.Native.Nat.{ℕ, _+_, _-_, _≤_, _<_}
 use native.Mathlib.Omega.{arith}
 use lib.ListN.{length, take, drop, length-append}
 use lib.Seq.{take-add, drop-at, length-take-le}
 use borrow.Author.Tests.{lt-ltb, le-ltb}
-use Rattle.rules.specs.Octets.{Bytes, padded, closed, part, put, lay}
+use Rattle.rules.specs.Octets.{Bytes, padded, closed, part, lay}
 use Rattle.rules.specs.Writer.{propertyBytes, nameOffset, nameGrowth}
 use Rattle.rules.specs.Written.{Blocks}
 use Rattle.rules.specs.Laws.Octets.{length-part, part-part, length-lay, lay-put, take-put-before, drop-put, part-put}
-use Rattle.rules.specs.Laws.Writer.{length-closed, length-property, offset-le}
+use Rattle.rules.specs.Laws.Writer.{length-closed, length-property}
 use Rattle.guest.specs.declared.Size.{Size}
 use Rattle.guest.specs.Laid.{blocksIn, withProperty, Fits, Begun, Lays}
 

@@ -1,19 +1,17 @@
 -- Where the marks are closed upwards the walk copies what the sieve keeps; and where the structure stands does not matter to bytes.
 use mathlib.Core.Path.{_≡_, refl, sym, ap, _∙_}
-use mathlib.Core.Bool.{Bool, true, false, _&&_}
+use mathlib.Core.Bool.{Bool, true, false}
 use mathlib.Core.List.{List, [], _∷_}
-use Prim.Native.Nat.{ℕ, zero, suc, _+_, _-_, _≤_, _<_}
+use Prim.Native.Nat.{ℕ, zero, suc, _+_, _-_}
 use native.Mathlib.Omega.{arith}
 use native.Mathlib.Numerals.{add-one}
 use native.Mathlib.Nat.{add-zero}
-use lib.Dec.{eqb}
-use lib.ListN.{length}
 use borrow.Author.Tests.{ne-eqb}
-use Rattle.rules.specs.Octets.{Bytes, if_then_else_}
+use Rattle.rules.specs.Octets.{Bytes}
 use Rattle.rules.specs.Blob.{Block}
 use Rattle.rules.specs.Tokens.{Placed, tokens}
-use Rattle.rules.specs.Events.{Event, opens, has, closes, saying, eventsOf, eventsIn}
-use Rattle.rules.specs.Tree.{Node, Tree, node, nodesFrom, nodesOf}
+use Rattle.rules.specs.Events.{Event, opens, saying, eventsOf, eventsIn}
+use Rattle.rules.specs.Tree.{Node, Tree, nodesFrom, nodesOf}
 use Rattle.rules.specs.Copy.{when, sieve}
 use Rattle.rules.specs.Written.{Blocks, writeEvent, writeEvents}
 use Rattle.rules.specs.declared.Token.{Token}

@@ -2,30 +2,28 @@
 use mathlib.Core.Path.{_≡_, refl, sym, ap, _∙_, subst}
 use mathlib.Core.Bool.{Bool, true, false, _&&_}
 use mathlib.Core.List.{List, [], _∷_, _++_}
-use Prim.Native.Nat.{ℕ, zero, suc, _+_, _-_, _≤_, _<_}
+use Prim.Native.Nat.{ℕ, _+_, _-_, _≤_}
 use native.Mathlib.Omega.{arith}
 use lib.Dec.{eqb, leb}
-use lib.ListN.{length, take, drop, length-append, length-take, length-drop}
+use lib.ListN.{length, drop}
 use types.Run.{OneOf, miss}
 use denote.Enum.Declared.{tagOf}
 use borrow.Author.Tests.{leb-true}
 use Rattle.rules.proofs.Token as tokened
 use Rattle.rules.specs.Octets.{Bytes, if_then_else_, part, wordAt, nulIn, padded}
 use Rattle.rules.specs.Blob.{Block}
-use Rattle.rules.specs.Tokens.{whole, beginAt, propAt, tagged, tokenAt}
-use Rattle.rules.specs.Events.{Property, Event, opens, has, closes, nodeNameAt, stringAt, saying, eventsIn}
-use Rattle.rules.specs.Writer.{beginBytes, endBytes, propertyBytes}
+use Rattle.rules.specs.Tokens.{beginAt, propAt, tagged, tokenAt}
+use Rattle.rules.specs.Events.{Event, opens, has, closes, nodeNameAt, stringAt, saying}
 use Rattle.rules.specs.Copy.{when}
 use Rattle.rules.specs.declared.Token.{Token}
 use Rattle.rules.specs.declared.Token.the-variants.{Item, End, Cut}
 use Rattle.rules.specs.declared.Kind.{Kind}
 use Rattle.rules.specs.declared.Kind.the-variants.{Begin, EndNode, Prop, Nop}
 use Rattle.rules.specs.Laws.Tests.{by-test}
-use Rattle.rules.specs.Laws.Octets.{nul-le, length-part}
+use Rattle.rules.specs.Laws.Octets.{length-part}
 use Rattle.rules.specs.Laws.Tokens.{if-by}
 use Rattle.rules.specs.Laws.Events.{eventsAt, events-all, events-item, events-end, events-cut}
 use Rattle.rules.specs.Laws.Writer.{length-begin, length-end, length-property}
-use Rattle.guest.specs.declared.walk.Named.{Named}
 use Rattle.guest.specs.declared.walk.Named.the-variants.{At, Nothing}
 use Rattle.guest.specs.Walked.{blockOf, marked, copies, nextOf, skippedOf, heard, sift}
 use Rattle.guest.specs.Measured.{namesOf, namesIn, propOf, nameAt, structureSize}

@@ -1,10 +1,10 @@
 -- One turn of each walk over the tokens.
-use mathlib.Core.Path.{_≡_, refl, sym, ap, _∙_}
+use mathlib.Core.Path.{_≡_, sym, ap, _∙_}
 use mathlib.Core.Bool.{Bool, true, false}
 use mathlib.Core.List.{List, [], _∷_, _++_}
-use Prim.Native.Nat.{ℕ, suc, _+_, _-_, _≤_, _<_}
+use Prim.Native.Nat.{ℕ, _+_, _-_, _≤_, _<_}
 use native.Mathlib.Omega.{arith}
-use lib.ListN.{length, take, drop}
+use lib.ListN.{length, take}
 use types.Run.{OneOf}
 use denote.Enum.Declared.{tagOf}
 use Rattle.rules.proofs.Token as tokened
@@ -14,10 +14,9 @@ use Rattle.rules.specs.Tokens.{tokenAt}
 use Rattle.rules.specs.declared.Token.{Token}
 use Rattle.rules.specs.declared.Token.the-variants.{Item}
 use Rattle.rules.specs.declared.Kind.{Kind}
-use Rattle.rules.specs.Laws.Tokens.{item-ahead}
 use Rattle.guest.specs.declared.walk.Walk.{Walk}
 use Rattle.guest.specs.declared.walk.Named.{Named}
-use Rattle.guest.specs.Walked.{nextOf, skippedOf, onwardOf}
+use Rattle.guest.specs.Walked.{onwardOf}
 use Rattle.guest.specs.Measured.{isIn, propOf, nameAt, isNamed, lessOne}
 use Rattle.guest.proofs.Sifts.{namesAt, names-item, names-stop, next-le, skipped-le}
 use Rattle.guest.proofs.Noted.{search-none, search-hit, search-miss}

@@ -1,7 +1,7 @@
 -- The blob of two blocks without reservations, part by part, and how long it is.
 use mathlib.Core.Path.{_≡_, refl, ap}
 use mathlib.Core.List.{List, [], _++_}
-use Prim.Native.Nat.{ℕ, _+_}
+use Prim.Native.Nat.{_+_}
 use native.Mathlib.Omega.{arith}
 use lib.ListN.{length, length-append}
 use Rattle.rules.specs.Octets.{Bytes, be32, be64, zeros}

@@ -2,17 +2,14 @@
 -- will end with its END.
 use mathlib.Core.Path.{_≡_}
 use mathlib.Core.Bool.{Bool, true, false}
-use mathlib.Core.List.{List, _++_}
+use mathlib.Core.List.{_++_}
 use Prim.Native.Nat.{ℕ, _+_, _≤_}
 use lib.ListN.{length, drop}
 use Rattle.rules.specs.Octets.{Bytes, part}
 use Rattle.rules.specs.Events.{Event}
 use Rattle.rules.specs.Writer.{propertyBytes, nameOffset, nameGrowth}
 use Rattle.rules.specs.Written.{Blocks, writeEvent}
-use Rattle.rules.specs.declared.Kind.{Kind}
-use Rattle.guest.specs.declared.walk.Walk.{Walk}
 use Rattle.guest.specs.declared.Size.{Size}
-use Rattle.guest.specs.Walked.{blockOf, copies, heard}
 
 -- the blocks that stand in the guest so far; `n` is where the strings begin
 abbrev pub blocksIn : (n : ℕ) → Bytes → Size → Blocks

@@ -2,9 +2,9 @@
 -- which nodes are copied, that it is closed upwards, then holds of the marks, and the sieve is the same by either.
 use mathlib.Core.Path.{_≡_, refl, sym, ap, _∙_}
 use mathlib.Core.Logic.{inl, inr}
-use mathlib.Core.Bool.{Bool, true, false}
+use mathlib.Core.Bool.{Bool, false}
 use mathlib.Core.List.{List, [], _∷_, List·Memᴰ·head, List·Memᴰ·tail, List·Memᴰ·cases-cons, List·Memᴰ·not-nil}
-use Prim.Native.Nat.{ℕ, zero, suc, _+_, _≤_, _<_}
+use Prim.Native.Nat.{ℕ, zero, suc, _+_, _<_}
 use native.Mathlib.Omega.{arith}
 use native.Mathlib.Nat.{add-zero, zero-add}
 use lib.Dec.{eqb}
@@ -16,8 +16,8 @@ use Rattle.rules.specs.Octets.{Bytes}
 use Rattle.rules.specs.Outcome.{passes}
 use Rattle.rules.specs.Blob.{Block}
 use Rattle.rules.specs.Events.{Event, opens, shapeJudged, eventsIn}
-use Rattle.rules.specs.Tree.{Node, Tree, node, propsOf, top, nodesFrom, nodesOf}
-use Rattle.rules.specs.Copy.{when, sieve}
+use Rattle.rules.specs.Tree.{Node, Tree, propsOf, top, nodesFrom, nodesOf}
+use Rattle.rules.specs.Copy.{sieve}
 use Rattle.rules.specs.Listing.{_∈_}
 use Rattle.rules.specs.Laws.Nested.{Nested, finished, root, child, holds, shuts, events-pass, events-nested}
 use Rattle.rules.specs.Laws.Sieve.{Upward}

@@ -6,7 +6,7 @@ use mathlib.Core.Bool.{Bool, true, false, _||_}
 use mathlib.Core.List.{List, [], _∷_, _++_}
 use Prim.Native.Nat.{ℕ, zero, suc, _+_, _-_, _*_, _≤_, _<_}
 use lib.Dec.{eqb, ltb}
-use lib.ListN.{length, getD, take}
+use lib.ListN.{length, getD}
 use Rattle.rules.specs.Ceilings.{blobCeiling, workWords}
 use Rattle.rules.specs.Space.{stackAt}
 use Rattle.rules.specs.Octets.{Bytes, if_then_else_, lay, same}
@@ -14,12 +14,11 @@ use Rattle.rules.specs.Events.{Event, opens, has, closes, stringAt, eventsIn}
 use Rattle.rules.specs.Writer.{beginBytes, endBytes, propertyBytes}
 use Rattle.rules.specs.declared.Kind.{Kind}
 use Rattle.rules.specs.declared.Kind.the-variants.{Begin, EndNode, Prop, Nop}
-use Rattle.guest.specs.declared.walk.Walk.{Walk}
 use Rattle.guest.specs.declared.walk.Named.{Named}
 use Rattle.guest.specs.declared.walk.Named.the-variants.{At, Nothing}
 use Rattle.guest.specs.declared.measured.Sum.{Sum}
 use Rattle.guest.specs.declared.Size.{Size}
-use Rattle.guest.specs.Walked.{blockOf, marked, copies, sift, copyOf, Kept}
+use Rattle.guest.specs.Walked.{blockOf, marked, sift, copyOf, Kept}
 
 -- ---- names
 

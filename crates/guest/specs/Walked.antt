@@ -1,9 +1,9 @@
 -- The walk of the copy over the tokens. Instead of the open nodes it keeps how many of them are not copied: where the marks are
 -- closed upwards, nothing below a node that is not copied is copied, so that this number says all that the sieve asks of them.
 use mathlib.Core.Path.{_≡_}
-use mathlib.Core.Bool.{Bool, true, false, _&&_}
+use mathlib.Core.Bool.{Bool, false, _&&_}
 use mathlib.Core.List.{List, [], _∷_}
-use Prim.Native.Nat.{ℕ, suc, _+_, _-_, _≤_, _<_}
+use Prim.Native.Nat.{ℕ, _+_, _-_, _≤_, _<_}
 use lib.Dec.{eqb, ltb}
 use lib.ListN.{length, getD}
 use Rattle.rules.specs.Ceilings.{blobCeiling, nodeCeiling, workWords}

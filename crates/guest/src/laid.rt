@@ -11,7 +11,7 @@ use rules::FDT_MAGIC;
 use rules::FDT_VERSION;
 use rules::Kind;
 ghost use mathlib.Core.Path.{_≡_};
-ghost use mathlib.Core.List.{[], _++_};
+ghost use mathlib.Core.List.{[]};
 ghost use Prim.Native.Nat.{_+_, _%_, _≤_};
 ghost use lib.ListN.{length};
 ghost use Rattle.rules.specs.Ceilings.{blobCeiling};
@@ -85,9 +85,9 @@ pub fn lay(
             }
         }
         Kind::Prop { len, name, value } => {
-            let n2 = string_at(strings, name);
-            let v = octets::part(structure, value, len);
-            property(guest, n, done, n2, v)
+            let spelled = string_at(strings, name);
+            let bytes = octets::part(structure, value, len);
+            property(guest, n, done, spelled, bytes)
         }
         Kind::Nop => done,
     }

@@ -1,5 +1,4 @@
 -- `blocks` meets its contract. The invariant: what stands in the guest, with what the rest writes, is the copy.
-use mathlib.Core.Path.{_≡_}
 use Prim.Native.Nat.{_-_}
 use native.Mathlib.Omega.{arith}
 use lib.ListN.{length}

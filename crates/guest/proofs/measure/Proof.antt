@@ -1,5 +1,4 @@
 -- `measure` meets its contract. The invariant: the sums so far, and what the rest adds, are those of the whole copy.
-use mathlib.Core.Path.{_≡_}
 use Prim.Native.Nat.{_-_}
 use native.Mathlib.Omega.{arith}
 use lib.ListN.{length}

@@ -1,6 +1,5 @@
 -- `write` meets its contract.
-use mathlib.Core.Path.{_≡_, refl, sym, ap, _∙_}
-use native.Mathlib.Omega.{arith}
+use mathlib.Core.Path.{refl}
 use denote.Ref.{now}
 use Rattle.guest.proofs.Closed.{guest-laid}
 use borrow.Author.Needs.{needs}

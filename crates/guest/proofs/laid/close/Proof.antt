@@ -1,6 +1,4 @@
 -- `close` meets its contract: END, the reservations and the header are laid around the blocks.
-use mathlib.Core.Path.{_≡_, refl, sym, ap, _∙_}
-use native.Mathlib.Omega.{arith}
 use denote.Ref.{now}
 use Rattle.guest.proofs.Closed.{closed-blob, closed-words}
 use borrow.Author.Needs.{needs}

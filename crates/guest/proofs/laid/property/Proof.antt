@@ -1,5 +1,5 @@
 -- `property` meets its contract: a name that stands in the strings is found, and another is laid behind them.
-use mathlib.Core.Path.{_≡_, refl, sym, ap, _∙_}
+use mathlib.Core.Path.{refl, ap, _∙_}
 use native.Mathlib.Omega.{arith}
 use denote.Ref.{now}
 use Rattle.rules.specs.Octets.{Bytes}

@@ -1,5 +1,5 @@
 -- `entered` meets its contract: a name met before adds nothing, a new one its length and NUL.
-use mathlib.Core.Path.{_≡_, refl, sym, ap, _∙_}
+use mathlib.Core.Path.{refl, sym, _∙_}
 use native.Mathlib.Omega.{arith}
 use lib.ListN.{take}
 use denote.Ref.{now}

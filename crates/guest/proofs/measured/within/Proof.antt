@@ -1,7 +1,5 @@
 -- `within` meets its contract: past the end a name is empty.
-use Prim.Native.Nat.{_≤_}
 use native.Mathlib.Omega.{arith}
-use lib.ListN.{length}
 use denote.Ref.{now}
 use Rattle.guest.proofs.Noted.{string-past}
 use borrow.Author.Needs.{needs}

@@ -1,5 +1,4 @@
 -- `is_named` meets its contract.
-use denote.Ref.{now}
 use borrow.Author.Needs.{needs}
 use Rattle.guest.proofs.names.is_named.Statement.{statement}
 use Rattle.guest.proofs.names.is_named.Tie as tie

@@ -1,5 +1,5 @@
 -- `same_name` meets its contract: the same offset has the same name.
-use mathlib.Core.Path.{sym, ap, _∙_}
+use mathlib.Core.Path.{sym, ap}
 use Prim.Native.Nat.{ℕ}
 use denote.Ref.{now}
 use Rattle.rules.specs.Octets.{same}

@@ -1,8 +1,4 @@
 -- `copies` meets its contract: a case for each kind.
-use mathlib.Core.Path.{sym, ap, _∙_}
-use borrow.Author.Tests.{eq-eqb, ne-eqb}
-use native.Mathlib.Omega.{arith}
-use denote.Ref.{now}
 use borrow.Author.Needs.{needs}
 use Rattle.guest.proofs.walk.copies.Statement.{statement}
 use Rattle.guest.proofs.walk.copies.Tie as tie
