@@ -2,3 +2,4 @@
 pub mod Answers
 pub mod Answered
 pub mod Marked
+pub mod Written

@@ -2,10 +2,7 @@
 // either is written, and a refusal leaves them as they were.
 mod judged;
 mod marked;
-
-use judged::Checked;
-use judged::request;
-use marked::marked;
+mod written;
 
 // Why nothing is derived, in the order in which it is judged.
 pub enum Refusal {

@@ -63,6 +63,14 @@ pub fn measure(structure: &[u8], strings: &[u8], work: &mut [u32]) -> Size
     }
 }
 
+// The length of a guest whose blocks have these sizes: header, the empty reservation block, structure, END and strings.
+pub fn total(size: Size) -> usize
+    requires { ⌜ (size .structure ≤ blobCeiling) × (size .strings ≤ blobCeiling * (blobCeiling + 1)) ⌝ }
+    ensures { λ r. ⌜ r ≡ 56 + size .structure + 4 + size .strings ⌝ }
+{
+    FRONT + size.structure + 4 + size.strings
+}
+
 // Lays the two blocks of the copy into the guest. The strings begin at n.
 fn blocks(structure: &[u8], strings: &[u8], work: &[u32], guest: &mut [u8], n: usize)
     requires { ⌜ (length (now structure) ≤ blobCeiling) × (n ≡ 56 + length (copyOf (now structure) (now strings) (now work) .structure) + 4) × (n + length (copyOf (now structure) (now strings) (now work) .strings) ≤ length (now guest)) ⌝ }
