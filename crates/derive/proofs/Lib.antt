@@ -2,3 +2,4 @@
 pub mod Checks
 pub mod Marks
 pub mod Writing
+pub mod Joining

@@ -34,14 +34,23 @@ fn cpus_checked(
     if ids.len() == 0 {
         return Checked::Nodes(n);
     }
-    if let cpus::judged::Judged::Refused { at } =
-        cpus_judged(structure, strings, place, work, count)
-    {
+    if let cpus::judged::Judged::Refused { at } = cpus_judged(
+        structure,
+        strings,
+        place,
+        work,
+        count,
+    ) {
         return Checked::Refused(Refusal::Register { at });
     }
-    if let cpus::judged::Judged::Refused { at } =
-        ids_judged(structure, strings, place, work, count, ids)
-    {
+    if let cpus::judged::Judged::Refused { at } = ids_judged(
+        structure,
+        strings,
+        place,
+        work,
+        count,
+        ids,
+    ) {
         return Checked::Refused(Refusal::Unmet { at });
     }
     Checked::Nodes(n)
