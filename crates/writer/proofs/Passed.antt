@@ -73,9 +73,9 @@ pub record Possible (w : State) (dataLent stringsLent : ℕ) : Type 0 where
   pub low : w .structure ≤ w .dataLength
   pub deep : w .depth ≤ 64
   pub inData : w .dataLength ≤ dataLent
-  pub dataSmall : w .dataLength ≤ 1048576
+  pub dataSmall : w .dataLength ≤ blobCeiling
   pub inStrings : w .stringsLength ≤ stringsLent
-  pub stringsSmall : w .stringsLength ≤ 1048576
+  pub stringsSmall : w .stringsLength ≤ blobCeiling
 
 pub possible : (w : State) (a b : ℕ) → impossible w a b ≡ false → Possible w a b
 unfolding impossible blobCeiling openCeiling
@@ -99,7 +99,7 @@ possible w a b e =
     record { high = high; low = low; deep = omega arith; inData = omega arith; dataSmall = omega arith; inStrings = omega arith; stringsSmall = omega arith }
 
 -- there is room for so many bytes
-pub fits : (lent after : ℕ) → noRoom lent after .fails ≡ false → (after ≤ lent) × (after ≤ 1048576)
+pub fits : (lent after : ℕ) → noRoom lent after .fails ≡ false → (after ≤ lent) × (after ≤ blobCeiling)
 unfolding blobCeiling
 fits lent after e =
     let h : after ≤ room lent = ltb-false _ _ e in
@@ -108,7 +108,7 @@ fits lent after e =
 -- ---- what passed
 
 pub begin-passed : (w : State) (lent : ℕ) (name : Bytes) → passes ≡ beginJudged w lent name
-    → (w .depth < 64) × (w .dataLength + length (beginBytes name) ≤ lent) × (w .dataLength + length (beginBytes name) ≤ 1048576)
+    → (w .depth < 64) × (w .dataLength + length (beginBytes name) ≤ lent) × (w .dataLength + length (beginBytes name) ≤ blobCeiling)
 unfolding beginJudged openCeiling
 begin-passed w lent name e =
     let t =
@@ -124,7 +124,7 @@ begin-passed w lent name e =
     (leb-false openCeiling (w .depth) (t .1 .0), f .0, f .1)
 
 pub end-passed : (w : State) (lent depth : ℕ) → passes ≡ endJudged w lent depth
-    → (0 < w .depth) × (w .dataLength + length endBytes ≤ lent) × (w .dataLength + length endBytes ≤ 1048576)
+    → (0 < w .depth) × (w .dataLength + length endBytes ≤ lent) × (w .dataLength + length endBytes ≤ blobCeiling)
 unfolding endJudged
 end-passed w lent depth e =
     let t =
@@ -137,7 +137,7 @@ end-passed w lent depth e =
     let f = fits lent (w .dataLength + length endBytes) (t .1 .1 .0) in
     (omega arith, f .0, f .1)
 
-pub finish-passed : (w : State) (a b : ℕ) → passes ≡ finishJudged w a b → Possible w a b × (total w ≤ a) × (total w ≤ 1048576)
+pub finish-passed : (w : State) (a b : ℕ) → passes ≡ finishJudged w a b → Possible w a b × (total w ≤ a) × (total w ≤ blobCeiling)
 unfolding finishJudged
 finish-passed w a b e =
     let t = all-passed (wrongState w a b ∷ test (not (eqb (w .depth) 0)) 26 ∷ noRoom a (total w) ∷ []) e in

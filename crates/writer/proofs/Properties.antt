@@ -7,6 +7,7 @@ use native.Mathlib.Omega.{arith}
 use lib.Dec.{eqb, ltb}
 use lib.ListN.{length, take}
 use lib.Seq.{length-take-le}
+use Rattle.rules.specs.Ceilings.{blobCeiling}
 use Rattle.rules.specs.Octets.{Bytes, if_then_else_, padded, lay, hasNul, closed}
 use Rattle.rules.specs.Names.{propertyNameValid}
 use Rattle.rules.specs.Outcome.{Outcome, gives, refuses, Verdict, passes, _then_}
@@ -48,9 +49,9 @@ by-size w lent strings own name value size e = rw (length-property (nameOffset n
 
 pub record Placed (w : State) (dataLent : ℕ) (strings name : Bytes) (size offset : ℕ) : Type 0 where
   pub dataFits : w .dataLength + size ≤ dataLent
-  pub dataSmall : w .dataLength + size ≤ 1048576
+  pub dataSmall : w .dataLength + size ≤ blobCeiling
   pub inStrings : w .stringsLength ≤ length strings
-  pub stringsSmall : w .stringsLength ≤ 1048576
+  pub stringsSmall : w .stringsLength ≤ blobCeiling
   pub stringsFit : w .stringsLength + length (growth w strings name) ≤ length strings
   pub found : offset ≡ nameOffset name (stringsOf w strings)
   pub grows : growth w strings name ≡ grown offset (w .stringsLength) name

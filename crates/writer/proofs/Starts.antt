@@ -10,7 +10,7 @@ use lib.ListN.{length, take, getD, length-append, length-take, length-map, List�
 use lib.Seq.{take-suc, length-take-le}
 use borrow.Author.Tests.{ltb-false}
 use Rattle.rules.specs.Ceilings.{blobCeiling, reservationCeiling}
-use Rattle.rules.specs.Octets.{Bytes, be32, be64, zeros, lay}
+use Rattle.rules.specs.Octets.{Bytes, if_then_else_, be32, be64, zeros, lay}
 use Rattle.rules.specs.Outcome.{refuses, Verdict, passes}
 use Rattle.rules.specs.Reservations.{Entry, entryBytes, block, anyInvalid, overlapping, neighbours, sortedFrom}
 use Rattle.rules.specs.Writer.{State, fresh, room, test, noRoom, startBytes, startJudged, start, startData}
@@ -89,6 +89,15 @@ none-short lent e = rw (start-none, length-zeros 56, e)
 pub none-fits : (lent : ℕ) → ltb (room lent) (0 + (56 + 16 * 0)) ≡ false → passes ≡ startJudged lent [] 0
 unfolding startJudged reservationCeiling anyInvalid overlapping neighbours sortedFrom
 none-fits lent e = rw (start-none, length-zeros 56, e)
+
+-- what was granted tells whether there was room
+pub granted-none : (b : Bool) (n g : ℕ) → g ≡ (if b then 0 else n) → g < n → (b ≡ true) × (g ≡ 0)
+granted-none true n g e h = (refl, e)
+granted-none false n g e h = absurd (omega arith)
+
+pub granted-all : (b : Bool) (n g : ℕ) → g ≡ (if b then 0 else n) → 0 < n → n ≤ g → (b ≡ false) × (g ≡ n)
+granted-all true n g e z h = absurd (omega arith)
+granted-all false n g e z h = (refl, e)
 
 -- ---- what a start answers and leaves
 
