@@ -24,9 +24,10 @@ rowNamed s place w j parent name =
     && (leb place (getD w (nodeWords * j) 0)
     && namedAt name (drop (getD w (nodeWords * j) 0 - place + 4) s)))
 
+-- a node before i has this parent and this name; none does whose row stands before the parent's
 unfoldable pub siblingBelow : Bytes → (place : ℕ) → List ℕ → (i parent : ℕ) → Bytes → Bool
 siblingBelow s place w zero parent name = false
-siblingBelow s place w (suc i) parent name = rowNamed s place w i parent name || siblingBelow s place w i parent name
+siblingBelow s place w (suc i) parent name = leb parent i && rowNamed s place w i parent name || siblingBelow s place w i parent name
 
 abbrev pub rowParent : List ℕ → ℕ → ℕ
 rowParent w i = if hasRow w i then getD w (nodeWords * i + 1) 0 else 0
