@@ -149,7 +149,7 @@ name-length s at len next e = subst (Length s at) e (length-token s at)
 
 -- ---- the walk
 
-and-none : (b : Bool) → (b && false) ≡ false
+pub and-none : (b : Bool) → (b && false) ≡ false
 and-none true = refl
 and-none false = refl
 
