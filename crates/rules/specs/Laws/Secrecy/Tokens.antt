@@ -22,6 +22,7 @@ use Rattle.rules.specs.declared.Token.the-variants.{Item, End, Cut}
 use Rattle.rules.specs.declared.Kind.the-variants.{Begin, EndNode, Prop, Nop}
 use Rattle.rules.specs.Laws.Tests.{by-test, never, and-true}
 use Rattle.rules.specs.Laws.Secrecy.Alike.{Veiled, veiled, both-open, both-have, both-close}
+use Rattle.rules.specs.Laws.Octets.{nul-stop, nul-on}
 
 -- ---- what a token reads
 
@@ -112,14 +113,6 @@ part-same s c v n e h =
     ∙ h (v + i) (omega arith) (omega arith)
     ∙ sym (getD-drop v c i 0)
     ∙ sym (getD-take n (drop v c) i 0 q))
-
-nul-stop : (x : ℕ) (s : Bytes) → eqb x 0 ≡ true → nulIn (x ∷ s) ≡ 0
-unfolding nulIn
-nul-stop x s e = rw (e, nulIn)
-
-nul-on : (x : ℕ) (s : Bytes) → eqb x 0 ≡ false → nulIn (x ∷ s) ≡ suc (nulIn s)
-unfolding nulIn
-nul-on x s e = rw (e, nulIn)
 
 -- where the first NUL stands is known by the bytes up to it
 nul-same : (s c : Bytes) → length s ≡ length c → ((i : ℕ) → i ≤ nulIn s → getD s i 0 ≡ getD c i 0) → nulIn s ≡ nulIn c

@@ -1,6 +1,6 @@
 -- What the reader's walk accepts the grammar derives, within 01's limits, and of nodes that say the same.
 use mathlib.Core.Path.{_≡_, refl, sym, ap, _∙_}
-use mathlib.Core.Bool.{Bool, true, false, not}
+use mathlib.Core.Bool.{Bool, true, false}
 use mathlib.Core.List.{List, [], _∷_, _++_, append-assoc, append-nil}
 use Prim.Native.Nat.{ℕ, zero, suc, _+_, _≤_, _<_}
 use native.Mathlib.Nat.{add-zero}
@@ -14,7 +14,7 @@ use Rattle.rules.specs.Names.{nodeNameReads, propertyNameReads}
 use Rattle.rules.specs.Outcome.{passes}
 use Rattle.rules.specs.Blob.{Block}
 use Rattle.rules.specs.Tokens.{tokenAt, following, tokensFrom, tokens}
-use Rattle.rules.specs.Events.{Walk, nodeNameAt, stringAt, propertyReads, ending, onToken, after, judge, shapeJudged, Event, opens, has, closes, saying, eventsOf, eventsIn}
+use Rattle.rules.specs.Events.{Walk, nodeNameAt, stringAt, propertyReads, ending, onToken, after, judge, shapeJudged, Event, opens, closes, saying, eventsOf, eventsIn}
 use Rattle.rules.specs.Written.{hasSaid, unplaced}
 use Rattle.rules.specs.declared.Token.{Token}
 use Rattle.rules.specs.declared.Token.the-variants.{Item, End, Cut}

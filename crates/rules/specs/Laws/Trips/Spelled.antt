@@ -13,17 +13,17 @@ use Rattle.rules.specs.Outcome.{gives, passes}
 use Rattle.rules.specs.Names.{nodeNameValid, nodeNameReads, propertyNameValid, propertyNameReads}
 use Rattle.rules.specs.Reservations.{Entry}
 use Rattle.rules.specs.Writer.{State, room, impossible, beginBytes, endBytes, propertyBytes, nameOffset, nameGrowth, growth, propertyAt, startBytes, beginJudged, beginNode, beginNodeData, endJudged, endNode, endNodeData, propertyJudged, property, propertyData, propertyStrings}
-use Rattle.rules.specs.Written.{Blocks, writeEvent, writeEvents, Call, begin, end, bytes, Desk, propertyCall, call, run, finished, said, bootSaid, hasSaid, spelled}
+use Rattle.rules.specs.Written.{Blocks, writeEvent, writeEvents, Call, begin, end, bytes, Desk, propertyCall, call, run, said, bootSaid, hasSaid, spelled}
 use Rattle.rules.specs.Events.{Property, Event, opens, has, closes}
 use Rattle.rules.specs.Laws.Tests.{and-true}
 use Rattle.rules.specs.Laws.Octets.{length-put}
 use Rattle.rules.specs.Laws.Names.{node-empty, node-name-plain, property-name-plain, plain-closed}
 use Rattle.rules.specs.Laws.Nested.{Nested, finished as all-said, root, child, holds, shuts}
-use Rattle.rules.specs.Laws.Encoded.{length-begin, length-end, length-property}
 use Rattle.rules.specs.Laws.ReadBack.{structureOf, stringsOf, strings-grow}
 use Rattle.rules.specs.Laws.Trips.Tests.{first-passes, beginTests, begin-tests, endTests, end-tests, holdTests, hold-tests}
 use Rattle.rules.specs.Laws.Trips.Calls.{Held, begunDesk, heldDesk, closedDesk, call-held, run-on, goes-on}
 use Rattle.rules.specs.Laws.Trips.Finish.{length-start, data-length, strings-length}
+use Rattle.rules.specs.Laws.Writer.{length-begin, length-end, length-property}
 
 -- ---- what a desk is ready for
 
