@@ -21,9 +21,10 @@ use Rattle.rules.specs.declared.Token.{Token}
 use Rattle.rules.specs.declared.Token.the-variants.{Item, End, Cut}
 use Rattle.rules.specs.declared.Kind.{Kind}
 use Rattle.rules.specs.declared.Kind.the-variants.{Begin, EndNode, Prop, Nop}
-use Rattle.rules.specs.Laws.Tests.{by-test, never, or-nothing, or-left, or-right}
+use Rattle.rules.specs.Laws.Tests.{by-test, never, or-nothing, or-left, or-right, or-assoc}
 use Rattle.rules.specs.Laws.Tokens.{if-by}
-use Rattle.passes.specs.Passes.{blockOf, eventsAt, propsAt}
+use Rattle.rules.specs.Laws.Events.{eventsAt}
+use Rattle.passes.specs.Passes.{blockOf, propsAt}
 use Rattle.passes.specs.Props.{Next, Stands, firstHit, upToHit, Met, Unmet, MeetsBy}
 use Rattle.passes.specs.declared.props.Property as read
 use Rattle.passes.specs.declared.props.Property.the-variants.{Here, Missing}
@@ -215,10 +216,6 @@ named-append : (x : Bytes) (ys xs : List Property) → named x (ys ++ xs) ≡ na
 unfolding named
 named-append x [] xs = refl
 named-append x (y ∷ ys) xs = ap (λ (b : Bool). same x (y .name) || b) (named-append x ys xs) ∙ sym (or-assoc (same x (y .name)) (named x ys) (named x xs))
-  where
-    or-assoc : (a b c : Bool) → ((a || b) || c) ≡ (a || (b || c))
-    or-assoc true b c = refl
-    or-assoc false b c = refl
 
 module _ (seen : List Property) (p : Property) (ps : List Property) where
   pub props-fault : named (p .name) seen ≡ true → doubledProps seen (p ∷ ps) ≡ refuses 10 (p .place)

@@ -23,10 +23,11 @@ use Rattle.rules.specs.declared.Token.{Token}
 use Rattle.rules.specs.declared.Token.the-variants.{Item, End, Cut}
 use Rattle.rules.specs.declared.Kind.{Kind}
 use Rattle.rules.specs.declared.Kind.the-variants.{Begin, EndNode, Prop, Nop}
-use Rattle.rules.specs.Laws.Tests.{by-test, by-le, both-ways, and-true, true-and, or-left, or-right}
+use Rattle.rules.specs.Laws.Tests.{by-test, by-le, both-ways, and-true, true-and, or-left, or-right, and-none, eqb-sym}
 use Rattle.rules.specs.Laws.Octets.{nul-le, nul-byte, nul-before, begins-split, begins-append, same-eq, eq-same}
 use Rattle.rules.specs.Laws.Tokens.{if-by}
-use Rattle.passes.specs.Passes.{blockOf, nodesIn, eventsAt, verdict}
+use Rattle.rules.specs.Laws.Events.{eventsAt}
+use Rattle.passes.specs.Passes.{blockOf, nodesIn, verdict}
 use Rattle.passes.specs.declared.Found.{Found}
 use Rattle.passes.specs.declared.Found.the-variants.{Nothing, At}
 use Rattle.passes.specs.Rows.{hasRow}
@@ -149,10 +150,6 @@ name-length s at len next e = subst (Length s at) e (length-token s at)
 
 -- ---- the walk
 
-pub and-none : (b : Bool) → (b && false) ≡ false
-and-none true = refl
-and-none false = refl
-
 -- the open nodes stand before node n
 abbrev Before : ℕ → List ℕ → Type 0
 Before n [] = Unit {0}
@@ -215,9 +212,6 @@ from-step seen n ns v e = assoc (first (record { fails = sibling n seen; number 
     assoc : (a b : Verdict) → (a then (b then doubledFrom (n ∷ seen) ns)) ≡ ((a then b) then doubledFrom (n ∷ seen) ns)
     assoc (gives u) b = refl
     assoc (refuses m x) b = refl
-
-eqb-sym : (a b : ℕ) → eqb a b ≡ eqb b a
-eqb-sym a b = both-ways (eqb a b) (eqb b a) (λ e. eq-eqb b a (sym (eqb-true a b e))) (λ e. eq-eqb a b (sym (eqb-true b a e)))
 
 module _ (s strings : Bytes) (place : ℕ) (w : List ℕ) (at count : ℕ) (i : at ≤ length s) (r : Token) (e : r ≡ tokenAt s at) (c : Come s strings place w at count) where
   abbrev b : Block

@@ -83,11 +83,3 @@ module _ (p n : Bytes) (e : ℕ) (h : e ≤ length p) where
       by : (q : Bytes) → length q ≡ e → same [] q ≡ eqb e 0
       by [] k = sym (eq-eqb e 0 (sym k))
       by (x ∷ q) k = sym (ne-eqb e 0 (λ z. let y : ⊥ = omega arith in absurd y))
-
-pub un-not : (b : Bool) → not b ≡ true → b ≡ false
-un-not true e = sym e
-un-not false e = refl
-
-pub un-not-false : (b : Bool) → not b ≡ false → b ≡ true
-un-not-false true e = refl
-un-not-false false e = sym e

@@ -109,14 +109,6 @@ module _ (b : Block) (o : Option String) (at : ℕ) (r : Token) (e : r ≡ token
 
 -- ---- one token
 
-pub un-not : (b : Bool) → not b ≡ true → b ≡ false
-un-not true e = sym e
-un-not false e = refl
-
-pub un-not-false : (b : Bool) → not b ≡ false → b ≡ true
-un-not-false true e = refl
-un-not-false false e = sym e
-
 module _ (structure strings : Bytes) (o : Option String) (kind : Kind) (len name value : ℕ) (e : kind ≡ Prop len name value) where
   pub turn-other : isNamed o (stringAt strings name) ≡ false → On ≡ onKind structure strings o kind
   turn-other h = rw (e, h)

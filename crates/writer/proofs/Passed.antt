@@ -7,15 +7,16 @@ use native.Mathlib.Omega.{arith}
 use lib.Dec.{leb, ltb, eqb}
 use lib.ListN.{length, take, length-append}
 use lib.Seq.{length-take-le}
-use borrow.Author.Tests.{ltb-false, leb-true, leb-false, eqb-true, eqb-false, eq-eqb, ne-eqb}
+use borrow.Author.Tests.{ltb-false, leb-true, leb-false, eqb-true, eqb-false, eq-eqb, ne-eqb, not-false}
 use Rattle.rules.specs.Ceilings.{blobCeiling, openCeiling}
 use Rattle.rules.specs.Octets.{Bytes, if_then_else_, be32, words32, put, lay, hasNul}
 use Rattle.rules.specs.Names.{nodeNameValid, propertyNameValid}
 use Rattle.rules.specs.Outcome.{Outcome, gives, refuses, Verdict, passes, settled, Test, first}
-use Rattle.rules.specs.Writer.{State, Answer, answer, room, noRoom, impossible, wrongState, test, beginBytes, endBytes, beginJudged, endJudged, finishJudged, finishData, total, headerBytes, headerOf, stringsOf}
+use Rattle.rules.specs.Writer.{State, Answer, answer, room, noRoom, impossible, wrongState, test, beginBytes, endBytes, beginJudged, endJudged, finishJudged, finishData, total, headerOf, stringsOf}
 use Rattle.rules.specs.Laws.Tests.{or-false}
 use Rattle.rules.specs.Laws.Octets.{lay-put, length-lay, length-be32}
-use Rattle.rules.specs.Laws.Writer.{laid-on, length-words32}
+use Rattle.rules.specs.Laws.Writer.{laid-on}
+use Rattle.rules.specs.Laws.Header.{length-header}
 
 -- ---- verdicts
 
@@ -47,10 +48,6 @@ none b (c ∷ cs) e =
     let r = none (b || c) cs e in
     let o = or-false b c (r .0) in
     (o .0, (o .1, r .1))
-
-pub not-no : (t : Bool) → not t ≡ false → t ≡ true
-not-no true e = refl
-not-no false e = sym e
 
 -- a refused call leaves all as it was
 pub answer-refused : (v : Verdict) (n : ℕ) (old new : State) → refuses n 0 ≡ v → record { verdict = refuses n 0; state = old } ≡ answer v old new
@@ -133,7 +130,7 @@ end-passed w lent depth e =
     e in
     let o = or-false (eqb depth 0) (not (eqb depth (w .depth))) (t .1 .0) in
     let some = eqb-false depth 0 (o .0) in
-    let same = eqb-true depth (w .depth) (not-no _ (o .1)) in
+    let same = eqb-true depth (w .depth) (not-false _ (o .1)) in
     let f = fits lent (w .dataLength + length endBytes) (t .1 .1 .0) in
     (omega arith, f .0, f .1)
 
@@ -146,9 +143,8 @@ finish-passed w a b e =
 
 -- ---- what is left
 
-length-header : (w : State) → length (headerOf w) ≡ 40
-unfolding headerBytes
-length-header w = length-words32 _
+length-of : (w : State) → length (headerOf w) ≡ 40
+length-of w = length-header _ _ _ _ _ _
 
 -- END, the strings and the header are laid in
 pub finish-left : (w : State) (d strings d₁ d₂ d₃ : Bytes) → passes ≡ finishJudged w (length d) (length strings)
@@ -161,5 +157,5 @@ finish-left w d strings d₁ d₂ d₃ v e₁ e₂ e₃ =
     let room : w .dataLength + length (be32 9 ++ stringsOf w strings) ≤ length d = omega (arith, length-append (be32 9) (stringsOf w strings), length-be32 9) in
     let same : length d₂ ≡ length d = ap length back ∙ length-lay d (w .dataLength) (be32 9 ++ stringsOf w strings) in
     e₃
-    ∙ lay-put d₂ 0 (headerOf w) (omega (arith, length-header w, p .0 .high, p .0 .inData))
+    ∙ lay-put d₂ 0 (headerOf w) (omega (arith, length-of w, p .0 .high, p .0 .inData))
     ∙ rw (back, lay-put d (w .dataLength) (be32 9 ++ stringsOf w strings) room, ← v)

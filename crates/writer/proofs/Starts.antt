@@ -18,6 +18,7 @@ use Rattle.rules.specs.Laws.Octets.{length-be64, length-zeros}
 use Rattle.reservation.specs.declared.Reservation.{Reservation}
 use Rattle.reservation.specs.Made.{entryOf, entriesOf}
 use Rattle.writer.proofs.Passed.{all-passed, fits, answer-refused, answer-done, kept, changed}
+use Rattle.rules.specs.Laws.Header.{length-entries}
 
 -- what an element past the end is, as a check has it
 abbrev pub nowhere : Reservation
@@ -27,12 +28,6 @@ entries-append : (a b : List Entry) → entryBytes (a ++ b) ≡ entryBytes a ++ 
 unfolding entryBytes
 entries-append [] b = refl
 entries-append (e ∷ a) b = rw (entries-append a b) (simp append-assoc)
-
-length-entries : (es : List Entry) → length (entryBytes es) ≡ 16 * length es
-unfolding entryBytes
-length-entries [] = refl
-length-entries (e ∷ es) =
-    rw (length-append (be64 (e .address)), length-append (be64 (e .size)), length-be64 (e .address), length-be64 (e .size), length-entries es) (omega arith)
 
 entries-one : (e : Entry) → entryBytes (e ∷ []) ≡ be64 (e .address) ++ be64 (e .size)
 unfolding entryBytes

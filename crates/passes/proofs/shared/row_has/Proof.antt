@@ -1,9 +1,8 @@
 -- `row_has` meets its contract.
 use borrow.Author.Tests.{le-ltb, lt-ltb, ne-eqb, eq-eqb}
 use Rattle.rules.specs.Ceilings.{nodeWords}
-use Rattle.rules.specs.Laws.Tests.{and-nothing}
+use Rattle.rules.specs.Laws.Tests.{and-nothing, and-none}
 use Rattle.passes.specs.Rows.{rowHas}
-use Rattle.passes.proofs.Twins.{and-none}
 use borrow.Author.Needs.{needs}
 use Rattle.passes.proofs.shared.row_has.Statement.{statement}
 use Rattle.passes.proofs.shared.row_has.Tie as tie
