@@ -16,7 +16,7 @@ use Rattle.rules.specs.Ceilings.{nodeWords, nodeCeiling, workWords}
 use Rattle.rules.specs.Octets.{Bytes, byteAt, wordAt, padded, nulIn, same, begins}
 use Rattle.rules.specs.Outcome.{Verdict, gives, refuses, passes, _then_, Test, first}
 use Rattle.rules.specs.Blob.{Block}
-use Rattle.rules.specs.Tokens.{beginAt, propAt, tagged, tokenAt}
+use Rattle.rules.specs.Tokens.{tokenAt}
 use Rattle.rules.specs.Events.{Event, saying, nodeNameAt}
 use Rattle.rules.specs.Tree.{Node, Tree, node, propsOf, top, rest, nodesFrom, nodesOf, sibling, doubledProps, doubledFrom, doubledJudged}
 use Rattle.rules.specs.declared.Token.{Token}
@@ -25,7 +25,7 @@ use Rattle.rules.specs.declared.Kind.{Kind}
 use Rattle.rules.specs.declared.Kind.the-variants.{Begin, EndNode, Prop, Nop}
 use Rattle.rules.specs.Laws.Tests.{by-test, by-le, both-ways, and-true, true-and, or-left, or-right, and-none, eqb-sym}
 use Rattle.rules.specs.Laws.Octets.{nul-le, nul-byte, nul-before, begins-split, begins-append, same-eq, eq-same}
-use Rattle.rules.specs.Laws.Tokens.{if-by}
+use Rattle.rules.specs.Laws.Tokens.{BeginSeen, Seen, token-seen}
 use Rattle.rules.specs.Laws.Events.{eventsAt}
 use Rattle.passes.specs.Passes.{blockOf, nodesIn, verdict}
 use Rattle.passes.specs.declared.Found.{Found}
@@ -112,41 +112,11 @@ no-nul r i h e =
 
 -- ---- how long the name behind a BEGIN is
 
-abbrev Length : Bytes → ℕ → Token → Type 0
-Length s at (Item (Begin len) next) = len ≡ nulIn (drop (at + 4) s)
-Length s at (Item EndNode next) = Unit {0}
-Length s at (Item (Prop len name value) next) = Unit {0}
-Length s at (Item Nop next) = Unit {0}
-Length s at End = Unit {0}
-Length s at Cut = Unit {0}
-
-length-prop : (s : Bytes) (at b : ℕ) → Length s at (propAt s b)
-unfolding propAt
-length-prop s at b =
-    if-by (Length s at) (leb (b + 8) (length s))
-    (λ _. if-by (Length s at) (leb (b + 8 + padded (wordAt s b)) (length s)) (λ _. tt) (λ _. tt))
-    (λ _. tt)
-
-length-begin : (s : Bytes) (at : ℕ) → Length s at (beginAt s (at + 4))
-unfolding beginAt
-length-begin s at =
-    if-by (Length s at) (leb (at + 4 + padded (nulIn (drop (at + 4) s) + 1)) (length s)) (λ _. refl) (λ _. tt)
-
-length-tagged : (s : Bytes) (at tag : ℕ) → Length s at (tagged tag s (at + 4))
-unfolding tagged
-length-tagged s at tag =
-    if-by (Length s at) (eqb tag 1) (λ _. length-begin s at)
-    (λ _. if-by (Length s at) (eqb tag 2) (λ _. tt)
-    (λ _. if-by (Length s at) (eqb tag 3) (λ _. length-prop s at (at + 4))
-    (λ _. if-by (Length s at) (eqb tag 4) (λ _. tt)
-    (λ _. if-by (Length s at) (eqb tag 9) (λ _. tt) (λ _. tt)))))
-
-length-token : (s : Bytes) (at : ℕ) → Length s at (tokenAt s at)
-unfolding tokenAt
-length-token s at = if-by (Length s at) (leb (at + 4) (length s)) (λ _. length-tagged s at (wordAt s at)) (λ _. tt)
-
 name-length : (s : Bytes) (at len next : ℕ) → tokenAt s at ≡ Item (Begin len) next → len ≡ nulIn (drop (at + 4) s)
-name-length s at len next e = subst (Length s at) e (length-token s at)
+name-length s at len next e = begun .name
+  where
+    begun : BeginSeen s at len next
+    begun = subst (Seen s at) e (token-seen s at)
 
 -- ---- the walk
 

@@ -226,14 +226,21 @@ module _ (name : Bytes) where
       (λ e. let q : length s ≡ nameOffset name s = omega (arith, ltb-false (nameOffset name s) (length s) e, offset-le name s) in
       (t, rw (e, append-assoc s (closed name) t) (drop-at s (closed name ++ t) (nameOffset name s) q ∙ append-assoc name (0 ∷ []) t)))
 
--- a name that stands closed at an offset is read there
+-- a name that stands at an offset and ends at its NUL is read there
+module _ (strings name z : Bytes) (offset : ℕ) (stands : drop offset strings ≡ name ++ (0 ∷ z)) (ends : nulIn (name ++ (0 ∷ z)) ≡ length name) where
+  pub string-ends : stringAt strings offset ≡ name
+  unfolding stringAt
+  string-ends = rw (stands, ends) (take-at name (0 ∷ z) (length name) refl)
+
+  pub reads-ends : propertyReads strings offset ≡ propertyNameReads name
+  unfolding propertyReads
+  reads-ends =
+      let l : length (name ++ (0 ∷ z)) ≡ length name + suc (length z) = length-append name (0 ∷ z) in
+      rw (string-ends, stands, ends, lt-ltb (length name) (length (name ++ (0 ∷ z))) (omega arith))
+
 module _ (strings name z : Bytes) (offset : ℕ) (stands : drop offset strings ≡ name ++ (0 ∷ z)) (plain : 0 ∈ name → ⊥) where
   pub string-stands : stringAt strings offset ≡ name
-  unfolding stringAt
-  string-stands = rw (stands, nul-name name z plain) (take-at name (0 ∷ z) (length name) refl)
+  string-stands = string-ends strings name z offset stands (nul-name name z plain)
 
   pub string-reads : propertyReads strings offset ≡ propertyNameReads name
-  unfolding propertyReads
-  string-reads =
-      let l : length (name ++ (0 ∷ z)) ≡ length name + suc (length z) = length-append name (0 ∷ z) in
-      rw (string-stands, stands, nul-name name z plain, lt-ltb (length name) (length (name ++ (0 ∷ z))) (omega arith))
+  string-reads = reads-ends strings name z offset stands (nul-name name z plain)

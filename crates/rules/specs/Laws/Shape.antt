@@ -31,7 +31,7 @@ reads-named s h e =
 name-lacks : (x : ℕ) (s : Bytes) → plain x ≡ false → ((i : ℕ) → i < length s → plain (byteAt s i) ≡ true) → x ∈ s → ⊥
 name-lacks x s f h m = never (plain x) (every-mem plain m (every-all plain s h)) f
 
-reads-valid : (s : Bytes) → nodeNameReads s ≡ true → nodeNameValid s ≡ true
+pub reads-valid : (s : Bytes) → nodeNameReads s ≡ true → nodeNameValid s ≡ true
 unfolding nodeNameReads
 reads-valid s h = and-true (not (eqb (length s) 0)) (nodeNameValid s) h .1
 

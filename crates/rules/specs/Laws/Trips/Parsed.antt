@@ -23,7 +23,8 @@ use Rattle.rules.specs.Laws.Tests.{by-test, never}
 use Rattle.rules.specs.Laws.Verdicts.{gives-refuses}
 use Rattle.rules.specs.Laws.Shape.{opening-passes, closing-passes, holding-passes}
 use Rattle.rules.specs.Grammar.{Forest, empty, node, Word, Pads, Stands, Props, no-props, nop-props, prop, Nodes, no-nodes, nop-nodes, a-node, Structure, a-root, size, height, PropsNamed, Named, Limits, tellProps, tell}
-use Rattle.rules.specs.Laws.Trips.Found.{Seen, token-seen, Tagged, tag-found, Begun, begin-found, Propped, prop-found, stands-found}
+use Rattle.rules.specs.Laws.Trips.Found.{Tagged, tag-found, Begun, begin-found, Propped, prop-found, stands-found}
+use Rattle.rules.specs.Laws.Tokens.{Seen, token-seen}
 
 -- ---- what is left of a structure, while `depth` nodes are open and `count` have been opened
 
