@@ -22,7 +22,7 @@ use Rattle.rules.specs.declared.Token.the-variants.{Item, End, Cut}
 use Rattle.rules.specs.declared.Kind.{Kind}
 use Rattle.rules.specs.declared.Kind.the-variants.{Begin, EndNode, Prop, Nop}
 use Rattle.rules.specs.Laws.Tests.{by-test, never, or-nothing, or-left, or-right, or-assoc}
-use Rattle.rules.specs.Laws.Tokens.{PropSeen, Seen, token-seen}
+use Rattle.rules.specs.Laws.Tokens.{prop-says}
 use Rattle.rules.specs.Laws.Events.{eventsAt}
 use Rattle.passes.specs.Passes.{blockOf, propsAt}
 use Rattle.passes.specs.Props.{Next, Stands, firstHit, upToHit, Met, Unmet, MeetsBy}
@@ -37,11 +37,9 @@ use Rattle.passes.proofs.Turns.{events-item, events-stop}
 pub name-offset : (s : Bytes) (at : ℕ) (r : Token) (kind : Kind) (next len name value : ℕ) → r ≡ tokenAt s at → r ≡ Item kind next → kind ≡ Prop len name value
     → (name ≡ wordAt s (at + 8)) × (at + 12 ≤ length s)
 name-offset s at r kind next len name value e f g =
+    let p = prop-says s at len name value next (sym e ∙ f ∙ ap (λ (k : Kind). Item k next) g) in
     let eight : at + 4 + 4 ≡ at + 8 = omega arith in
-    (propped .offset ∙ ap (wordAt s) eight, omega (arith, propped .ends, propped .inside))
-  where
-    propped : PropSeen s at len name value next
-    propped = subst (Seen s at) (sym e ∙ f ∙ ap (λ (k : Kind). Item k next) g) (token-seen s at)
+    (p .offset ∙ ap (wordAt s) eight, omega (arith, p .ends, p .inside))
 
 -- ---- the next property
 

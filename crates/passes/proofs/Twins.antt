@@ -25,7 +25,7 @@ use Rattle.rules.specs.declared.Kind.{Kind}
 use Rattle.rules.specs.declared.Kind.the-variants.{Begin, EndNode, Prop, Nop}
 use Rattle.rules.specs.Laws.Tests.{by-test, by-le, both-ways, and-true, true-and, or-left, or-right, and-none, eqb-sym}
 use Rattle.rules.specs.Laws.Octets.{nul-le, nul-byte, nul-before, begins-split, begins-append, same-eq, eq-same}
-use Rattle.rules.specs.Laws.Tokens.{BeginSeen, Seen, token-seen}
+use Rattle.rules.specs.Laws.Tokens.{begin-says}
 use Rattle.rules.specs.Laws.Events.{eventsAt}
 use Rattle.passes.specs.Passes.{blockOf, nodesIn, verdict}
 use Rattle.passes.specs.declared.Found.{Found}
@@ -109,14 +109,6 @@ pub no-nul : (r : Bytes) → NoNul (upTo r)
 no-nul r i h e =
     let k : i < nulIn r = omega (arith, length-take-le (nulIn r) r (nul-le r)) in
     nul-before r i k (sym (getD-take (nulIn r) r i 0 k) ∙ e)
-
--- ---- how long the name behind a BEGIN is
-
-name-length : (s : Bytes) (at len next : ℕ) → tokenAt s at ≡ Item (Begin len) next → len ≡ nulIn (drop (at + 4) s)
-name-length s at len next e = begun .name
-  where
-    begun : BeginSeen s at len next
-    begun = subst (Seen s at) e (token-seen s at)
 
 -- ---- the walk
 
@@ -248,7 +240,7 @@ module _ (s strings : Bytes) (place : ℕ) (w : List ℕ) (at count : ℕ) (i : 
       parented = table .parent count (listed .0) ∙ ap (λ (n : Node). n .parent) (listed .1)
 
       spelled : m .name ≡ upTo (drop (at + 4) s)
-      spelled = ap (λ (n : ℕ). take n (drop (at + 4) s)) (name-length s at len next (sym e ∙ f ∙ ap (λ (k : Kind). Item k next) g))
+      spelled = ap (λ (n : ℕ). take n (drop (at + 4) s)) (begin-says s at len next (sym e ∙ f ∙ ap (λ (k : Kind). Item k next) g) .name)
 
       nulless : NoNul (m .name)
       nulless = subst NoNul (sym spelled) (no-nul (drop (at + 4) s))

@@ -80,6 +80,13 @@ unfolding tokenAt
 token-seen s at =
     if-by (Seen s at) (leb (at + 4) (length s)) (λ e. tagged-seen s at (leb-true (at + 4) (length s) e) (wordAt s at) refl) (λ _. tt)
 
+-- the same of a token that is known
+pub begin-says : (s : Bytes) (at len next : ℕ) → tokenAt s at ≡ Item (Begin len) next → BeginSeen s at len next
+begin-says s at len next e = subst (Seen s at) e (token-seen s at)
+
+pub prop-says : (s : Bytes) (at len name value next : ℕ) → tokenAt s at ≡ Item (Prop len name value) next → PropSeen s at len name value next
+prop-says s at len name value next e = subst (Seen s at) e (token-seen s at)
+
 -- ---- an item ends further on, and inside
 
 abbrev pub Ahead : Bytes → ℕ → Token → Type 0
