@@ -15,7 +15,7 @@ use Rattle.rules.specs.Events.{Property, stringAt}
 use Rattle.rules.specs.Outcome.{refuses, passes}
 use Rattle.rules.specs.Tree.{named, doubledProps}
 use Rattle.rules.specs.Laws.Tests.{by-test, by-le, never, both-ways, not-passed, or-cases, or-left, or-right}
-use Rattle.rules.specs.Laws.Octets.{same-eq, eq-same, not-same}
+use Rattle.rules.specs.Laws.Octets.{same-eq, eq-same}
 use Rattle.rules.specs.Laws.Order.{before-irrefl, before-trans, before-total}
 use Rattle.passes.specs.Sorted.{chunkStart, chunkRoom, keyAt, keyBelow, Ordered, Between, Fresh, Finds, Inserted, Framed, Wiped}
 use Rattle.passes.specs.Passes.{propsAt}

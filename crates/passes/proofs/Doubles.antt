@@ -7,21 +7,19 @@ use native.Mathlib.Omega.{arith}
 use native.Mathlib.Numerals.{add-one}
 use lib.ListN.{length, take, drop, length-drop}
 use lib.Seq.{take-all, take-nil}
-use lib.Dec.{eqb, leb}
 use types.Run.{OneOf}
-use borrow.Author.Tests.{leb-true}
 use denote.Enum.Declared.{tagOf}
 use Rattle.rules.proofs.Token as tokened
-use Rattle.rules.specs.Octets.{Bytes, same, part, wordAt, nulIn, padded}
+use Rattle.rules.specs.Octets.{Bytes, same, part, wordAt}
 use Rattle.rules.specs.Outcome.{Verdict, gives, refuses, passes, _then_}
 use Rattle.rules.specs.Tokens.{tokenAt}
 use Rattle.rules.specs.Events.{Property, stringAt, saying}
 use Rattle.rules.specs.Tree.{propsOf, named, doubledProps}
 use Rattle.rules.specs.declared.Token.{Token}
-use Rattle.rules.specs.declared.Token.the-variants.{Item, End, Cut}
+use Rattle.rules.specs.declared.Token.the-variants.{Item}
 use Rattle.rules.specs.declared.Kind.{Kind}
 use Rattle.rules.specs.declared.Kind.the-variants.{Begin, EndNode, Prop, Nop}
-use Rattle.rules.specs.Laws.Tests.{by-test, never, or-nothing, or-left, or-right, or-assoc}
+use Rattle.rules.specs.Laws.Tests.{by-test, or-nothing, or-right, or-assoc}
 use Rattle.rules.specs.Laws.Tokens.{prop-says}
 use Rattle.rules.specs.Laws.Events.{eventsAt}
 use Rattle.passes.specs.Passes.{blockOf, propsAt}

@@ -1,16 +1,14 @@
 -- A walk over tokens as a walk over events: what a token says, and the events from a place on.
-use mathlib.Core.Path.{_≡_, refl, sym, ap, _∙_}
-use mathlib.Core.List.{List, [], _∷_}
-use Prim.Native.Nat.{ℕ, _+_, _≤_, _<_}
-use native.Mathlib.Omega.{arith}
+use mathlib.Core.Path.{_≡_, sym, _∙_}
+use mathlib.Core.List.{[], _∷_}
+use Prim.Native.Nat.{ℕ, _≤_}
 use lib.ListN.{length}
 use types.Run.{OneOf, miss}
 use denote.Enum.Declared.{tagOf}
 use Rattle.rules.proofs.Token as tokened
-use Rattle.rules.specs.Octets.{Bytes}
-use Rattle.rules.specs.Tokens.{Placed, tokenAt}
+use Rattle.rules.specs.Tokens.{tokenAt}
 use Rattle.rules.specs.Blob.{Block}
-use Rattle.rules.specs.Events.{Event, saying, eventsOf, eventsIn}
+use Rattle.rules.specs.Events.{saying, eventsIn}
 use Rattle.rules.specs.declared.Token.{Token}
 use Rattle.rules.specs.declared.Token.the-variants.{Item, End, Cut}
 use Rattle.rules.specs.declared.Kind.{Kind}

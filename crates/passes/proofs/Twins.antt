@@ -13,14 +13,14 @@ use denote.Enum.Declared.{tagOf}
 use borrow.Author.Tests.{eqb-true, eqb-false, eq-eqb, ne-eqb, lt-ltb, le-leb, lt-leb}
 use Rattle.rules.proofs.Token as tokened
 use Rattle.rules.specs.Ceilings.{nodeWords, nodeCeiling, workWords}
-use Rattle.rules.specs.Octets.{Bytes, byteAt, wordAt, padded, nulIn, same, begins}
-use Rattle.rules.specs.Outcome.{Verdict, gives, refuses, passes, _then_, Test, first}
+use Rattle.rules.specs.Octets.{Bytes, byteAt, nulIn, same, begins}
+use Rattle.rules.specs.Outcome.{Verdict, gives, refuses, passes, _then_, first}
 use Rattle.rules.specs.Blob.{Block}
 use Rattle.rules.specs.Tokens.{tokenAt}
 use Rattle.rules.specs.Events.{Event, saying, nodeNameAt}
 use Rattle.rules.specs.Tree.{Node, Tree, node, propsOf, top, rest, nodesFrom, nodesOf, sibling, doubledProps, doubledFrom, doubledJudged}
 use Rattle.rules.specs.declared.Token.{Token}
-use Rattle.rules.specs.declared.Token.the-variants.{Item, End, Cut}
+use Rattle.rules.specs.declared.Token.the-variants.{Item}
 use Rattle.rules.specs.declared.Kind.{Kind}
 use Rattle.rules.specs.declared.Kind.the-variants.{Begin, EndNode, Prop, Nop}
 use Rattle.rules.specs.Laws.Tests.{by-test, by-le, both-ways, and-true, true-and, or-left, or-right, and-none, eqb-sym}

@@ -11,10 +11,10 @@ use types.Run.{OneOf, miss}
 use denote.Enum.Declared.{tagOf}
 use borrow.Author.Tests.{eqb-true, eq-eqb, ne-eqb}
 use Rattle.rules.specs.Octets.{Bytes, if_then_else_, byteAt, wordAt, ascii, same}
-use Rattle.rules.specs.Outcome.{Verdict, gives, refuses, passes, _then_, Test, first}
+use Rattle.rules.specs.Outcome.{Verdict, refuses, passes, _then_, first}
 use Rattle.rules.specs.Blob.{Block}
 use Rattle.rules.specs.Events.{Property, Event, opens, has, closes, saying, eventsIn}
-use Rattle.rules.specs.Tree.{propsOf, rest, nodesFrom, nodesOf, isPhandle, readName, among, cellsNames, differs, wordsFrom, wordsJudged}
+use Rattle.rules.specs.Tree.{propsOf, rest, nodesFrom, nodesOf, isPhandle, among, cellsNames, differs, wordsFrom, wordsJudged}
 use Rattle.rules.specs.Tokens.{tokenAt}
 use Rattle.rules.specs.declared.Token.{Token}
 use Rattle.rules.specs.declared.Token.the-variants.{Item}

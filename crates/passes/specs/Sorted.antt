@@ -3,8 +3,8 @@ use mathlib.Core.Path.{_≡_}
 use mathlib.Core.Logic.{_⊎_}
 use mathlib.Core.Bool.{Bool, true, false, _||_}
 use mathlib.Core.List.{List}
-use Prim.Native.Nat.{ℕ, zero, suc, _+_, _-_, _≤_, _<_, min}
-use lib.ListN.{length, getD}
+use Prim.Native.Nat.{ℕ, zero, suc, _+_, _≤_, _<_, min}
+use lib.ListN.{getD}
 use Rattle.rules.specs.Octets.{Bytes, before, same}
 use Rattle.rules.specs.Events.{stringAt}
 use Rattle.passes.specs.declared.sorted.Spot.{Spot}

@@ -1,25 +1,24 @@
 -- The pass of refusal 12 on the table that the walk leaves: it judges as the definition does, and completes the rows.
-use mathlib.Core.Path.{_≡_, refl, sym, ap, ap₂, _∙_, subst}
-use mathlib.Core.Bool.{Bool, true, false, _&&_, _||_}
+use mathlib.Core.Path.{_≡_, refl, sym, ap, ap₂, _∙_}
+use mathlib.Core.Bool.{Bool, false, _||_}
 use mathlib.Core.List.{List, [], _∷_, _++_, append-assoc}
 use mathlib.Core.Option.{Option, none, some}
 use Prim.Native.Nat.{ℕ, zero, suc, _+_, _*_, _/_, _≤_, _<_}
 use native.Mathlib.Omega.{arith}
-use native.Mathlib.Numerals.{add-one}
-use lib.Dec.{eqb, ltb}
+use lib.Dec.{eqb}
 use lib.ListN.{length, getD, set, length-append, length-set, List·getD-append}
 use lib.Seq.{getD-append-add, getD-set-same, getD-set-other, set-at}
-use borrow.Author.Tests.{eqb-true, eq-eqb, lt-ltb}
+use borrow.Author.Tests.{lt-ltb}
 use Rattle.rules.specs.Ceilings.{workWords, nodeWords}
 use Rattle.rules.specs.Octets.{wordAt}
 use Rattle.rules.specs.Lists.{oneOf}
-use Rattle.rules.specs.Outcome.{Verdict, gives, refuses, passes}
+use Rattle.rules.specs.Outcome.{Verdict, gives, refuses}
 use Rattle.rules.specs.Events.{Property}
-use Rattle.rules.specs.Tree.{Node, Tree, phandleProp, phandleOf, sharedFrom, sharedJudged}
+use Rattle.rules.specs.Tree.{Node, Tree, phandleProp, sharedFrom, sharedJudged}
 use Rattle.rules.specs.Reader.{rowOf, rowsOf, spaceOf}
-use Rattle.rules.specs.Laws.Tests.{by-test, both-ways, or-nothing, or-comm, eqb-sym}
+use Rattle.rules.specs.Laws.Tests.{by-test, or-nothing, or-comm, eqb-sym}
 use Rattle.rules.specs.Laws.Reader.{startOf, startsOf, starts-length, space-length, space-get, space-set, space-space}
-use Rattle.passes.specs.Rows.{hasRow, rowHas, rowBelow, rowGiven, rowsFrom}
+use Rattle.passes.specs.Rows.{rowHas, rowBelow, rowGiven, rowsFrom}
 
 -- ---- two words of a row are written
 

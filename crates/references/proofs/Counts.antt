@@ -1,6 +1,6 @@
 -- The search for a cells property over tokens is the look into the properties that they say.
 use mathlib.Core.Path.{_≡_, refl, sym, ap, _∙_}
-use mathlib.Core.Bool.{Bool, true, false, not}
+use mathlib.Core.Bool.{true, false}
 use mathlib.Core.List.{List, [], _∷_}
 use mathlib.Core.Option.{Option, none, some}
 use Prim.Native.Nat.{ℕ, _≤_}
@@ -12,7 +12,7 @@ use Rattle.rules.proofs.Token as tokened
 use Rattle.rules.specs.Octets.{Bytes, wordAt, part, ascii, same}
 use Rattle.rules.specs.Blob.{Block}
 use Rattle.rules.specs.Tokens.{tokenAt}
-use Rattle.rules.specs.Events.{Property, Event, has, stringAt, saying}
+use Rattle.rules.specs.Events.{Property, Event, stringAt, saying}
 use Rattle.rules.specs.Tree.{propsOf, valueOf}
 use Rattle.rules.specs.References.{wordNamed}
 use Rattle.rules.specs.declared.Token.{Token}

@@ -1,13 +1,13 @@
 -- Names: what is asked of a name that was found to be a given text is asked of the text.
 use mathlib.Core.Path.{_≡_, refl, sym, ap, _∙_}
-use mathlib.Core.Bool.{Bool, true, false, not, _&&_, _||_}
+use mathlib.Core.Bool.{Bool, true, false, _||_}
 use mathlib.Core.List.{List, [], _∷_, _++_}
 use mathlib.Core.Option.{none, some}
 use Prim.Native.String.{String}
 use lib.ListN.{take, drop}
 use Rattle.rules.specs.Octets.{Bytes, if_then_else_, ascii, same}
 use Rattle.rules.specs.Tree.{among}
-use Rattle.rules.specs.References.{referenceNames, isGpio, Row, cellRows, cellsIn}
+use Rattle.rules.specs.References.{referenceNames, isGpio, Row, cellsIn}
 use Rattle.rules.specs.Laws.Tests.{or-false, or-assoc}
 use Rattle.rules.specs.Laws.Octets.{same-eq}
 

@@ -1,18 +1,18 @@
 -- What is known of a state and its buffers once a call's tests have passed, and what a call then answers and leaves.
-use mathlib.Core.Path.{_≡_, refl, sym, ap, _∙_}
-use mathlib.Core.Bool.{Bool, true, false, not, _&&_, _||_}
+use mathlib.Core.Path.{_≡_, refl, ap, _∙_}
+use mathlib.Core.Bool.{Bool, true, false, not, _||_}
 use mathlib.Core.List.{List, [], _∷_, _++_}
-use Prim.Native.Nat.{ℕ, _+_, _-_, _*_, _%_, _≤_, _<_, min}
+use Prim.Native.Nat.{ℕ, _+_, _%_, _≤_, _<_}
 use native.Mathlib.Omega.{arith}
 use lib.Dec.{leb, ltb, eqb}
-use lib.ListN.{length, take, length-append}
+use lib.ListN.{length, length-append}
 use lib.Seq.{length-take-le}
-use borrow.Author.Tests.{ltb-false, leb-true, leb-false, eqb-true, eqb-false, eq-eqb, ne-eqb, not-false}
+use borrow.Author.Tests.{ltb-false, leb-false, eqb-true, eqb-false, not-false}
 use Rattle.rules.specs.Ceilings.{blobCeiling, openCeiling}
-use Rattle.rules.specs.Octets.{Bytes, if_then_else_, be32, words32, put, lay, hasNul}
-use Rattle.rules.specs.Names.{nodeNameValid, propertyNameValid}
-use Rattle.rules.specs.Outcome.{Outcome, gives, refuses, Verdict, passes, settled, Test, first}
-use Rattle.rules.specs.Writer.{State, Answer, answer, room, noRoom, impossible, wrongState, test, beginBytes, endBytes, beginJudged, endJudged, finishJudged, finishData, total, headerOf, stringsOf}
+use Rattle.rules.specs.Octets.{Bytes, if_then_else_, be32, put, lay, hasNul}
+use Rattle.rules.specs.Names.{nodeNameValid}
+use Rattle.rules.specs.Outcome.{refuses, Verdict, passes, settled, Test, first}
+use Rattle.rules.specs.Writer.{State, answer, room, noRoom, impossible, wrongState, test, beginBytes, endBytes, beginJudged, endJudged, finishJudged, finishData, total, headerOf, stringsOf}
 use Rattle.rules.specs.Laws.Tests.{or-false}
 use Rattle.rules.specs.Laws.Octets.{lay-put, length-lay, length-be32}
 use Rattle.rules.specs.Laws.Writer.{laid-on}

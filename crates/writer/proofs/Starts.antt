@@ -1,20 +1,20 @@
 -- The reservation block as it is written, and what a start leaves.
-use mathlib.Core.Path.{_≡_, refl, sym, ap, _∙_}
+use mathlib.Core.Path.{_≡_, refl, ap, _∙_}
 use mathlib.Core.Bool.{Bool, true, false}
 use mathlib.Core.List.{List, [], _∷_, _++_, append-assoc, append-nil}
-use Prim.Native.Nat.{ℕ, suc, _+_, _*_, _≤_, _<_}
+use Prim.Native.Nat.{ℕ, _+_, _*_, _≤_, _<_}
 use native.Mathlib.Omega.{arith}
 use native.Mathlib.Numerals.{add-one}
 use lib.Dec.{ltb}
-use lib.ListN.{length, take, getD, length-append, length-take, length-map, List·getD-map}
+use lib.ListN.{length, take, getD, length-append, length-map, List·getD-map}
 use lib.Seq.{take-suc, length-take-le}
 use borrow.Author.Tests.{ltb-false}
-use Rattle.rules.specs.Ceilings.{blobCeiling, reservationCeiling}
+use Rattle.rules.specs.Ceilings.{reservationCeiling}
 use Rattle.rules.specs.Octets.{Bytes, if_then_else_, be32, be64, zeros, lay}
-use Rattle.rules.specs.Outcome.{refuses, Verdict, passes}
+use Rattle.rules.specs.Outcome.{refuses, passes}
 use Rattle.rules.specs.Reservations.{Entry, entryBytes, block, anyInvalid, overlapping, neighbours, sortedFrom}
 use Rattle.rules.specs.Writer.{State, fresh, room, test, noRoom, startBytes, startJudged, start, startData}
-use Rattle.rules.specs.Laws.Octets.{length-be64, length-zeros}
+use Rattle.rules.specs.Laws.Octets.{length-zeros}
 use Rattle.reservation.specs.declared.Reservation.{Reservation}
 use Rattle.reservation.specs.Made.{entryOf, entriesOf}
 use Rattle.writer.proofs.Passed.{all-passed, fits, answer-refused, answer-done, kept, changed}

@@ -1,5 +1,4 @@
 -- `granted` meets its contract.
-use mathlib.Core.Path.{_≡_, refl, sym, ap, _∙_}
 use borrow.Author.Needs.{needs}
 use Rattle.writer.proofs.judge.granted.Statement.{statement}
 use Rattle.writer.proofs.judge.granted.Tie as tie
