@@ -1,12 +1,12 @@
 -- A number spelled from its last digit on: what stands behind the next place are the digits that are done.
-use mathlib.Core.Path.{_≡_, refl, sym, ap, _∙_}
-use mathlib.Core.List.{[], _∷_}
+use mathlib.Core.Path.{_≡_, sym, ap, _∙_}
+use mathlib.Core.List.{_∷_}
 use Prim.Native.Nat.{ℕ, zero, suc, _+_, _-_, _*_, _/_, _%_, _^_, _≤_, _<_}
 use native.Mathlib.Nat.{pow-suc}
 use native.Mathlib.Numerals.{add-one}
 use native.Mathlib.Omega.{arith}
 use lib.ListN.{length, take, drop, set, length-set, drop-of-length-le}
-use lib.Seq.{length-take-le, drop-at, set-split, take-all}
+use lib.Seq.{length-take-le, drop-at, set-split}
 use Rattle.rules.specs.Octets.{Bytes}
 use Rattle.rules.specs.Program.{decimal}
 use Rattle.rules.specs.Laws.Program.{digits, digits-all, digits-last, digits-more}

@@ -1,6 +1,6 @@
 -- The text of an answer, from a path list as it is lent: each NUL becomes a newline. Of a list that is its paths, each closed by
 -- NUL, it is the text that rules: Program defines.
-use mathlib.Core.Path.{_≡_, refl, sym, ap, ap₂, _∙_}
+use mathlib.Core.Path.{_≡_, refl, ap, ap₂, _∙_}
 use mathlib.Core.Bool.{true, false}
 use mathlib.Core.List.{List, [], _∷_, _++_, append-assoc}
 use Prim.Native.Nat.{ℕ, zero, suc, _+_, _*_, _/_, _%_, _^_, _≤_, _<_, min}
@@ -9,7 +9,7 @@ use native.Mathlib.Omega.{arith}
 use lib.Dec.{eqb}
 use lib.ListN.{length, length-append}
 use borrow.Author.Tests.{ne-eqb}
-use Rattle.rules.specs.Octets.{Bytes, byteAt, closed, ascii, lay}
+use Rattle.rules.specs.Octets.{Bytes, byteAt, ascii, lay}
 use Rattle.rules.specs.Listing.{pathsBytes}
 use Rattle.rules.specs.Program.{decimal, newline, printedPaths, printedAnswer, printedRefusal}
 use Rattle.rules.specs.Laws.Tests.{by-le}

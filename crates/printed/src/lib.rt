@@ -2,7 +2,6 @@
 // call asks anything of its caller: what would come to stand past the end is dropped, and the place answered is inside the
 // buffer or its end, so that no sum of lengths can wrap.
 ghost use mathlib.Core.Path.{_≡_};
-ghost use mathlib.Core.List.{_++_};
 ghost use Prim.Native.Nat.{_+_, _%_, _<_, min};
 ghost use lib.ListN.{length, drop};
 ghost use Rattle.rules.specs.Octets.{lay};

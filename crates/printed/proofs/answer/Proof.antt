@@ -3,7 +3,7 @@ use mathlib.Core.List.{_++_}
 use denote.Ref.{now}
 use Rattle.rules.specs.Octets.{Bytes, ascii}
 use Rattle.rules.specs.Program.{decimal, newline}
-use Rattle.printed.specs.Text.{inLines, answerText, Laid}
+use Rattle.printed.specs.Text.{inLines, answerText}
 use Rattle.printed.proofs.Laying.{then, front}
 use borrow.Author.Needs.{needs}
 use Rattle.printed.proofs.answer.Statement.{statement}

@@ -1,9 +1,7 @@
 -- `decimal` meets its contract: the digits that are spelled are laid in.
-use mathlib.Core.Path.{_≡_, ap, _∙_}
-use native.Mathlib.Omega.{arith}
-use lib.ListN.{length, take}
+use mathlib.Core.Path.{ap, _∙_}
+use lib.ListN.{take}
 use lib.Seq.{take-all}
-use denote.Ref.{now}
 use Rattle.rules.specs.Program.{decimal}
 use Rattle.printed.specs.Text.{decimal-short}
 use Rattle.printed.proofs.Laying.{same-text}

@@ -1,7 +1,6 @@
 -- `in_line` meets its contract.
 use mathlib.Core.Path.{sym}
 use Rattle.printed.specs.Text.{in-line-nul, in-line-other}
-use borrow.Author.Needs.{needs}
 use Rattle.printed.proofs.in_line.Statement.{statement}
 use Rattle.printed.proofs.in_line.Tie as tie
 

@@ -1,5 +1,5 @@
 -- `put_lines` meets its contract. The invariant: the bytes of the list before the place are laid in, each as a line has it.
-use mathlib.Core.Path.{_≡_, refl, ap, _∙_}
+use mathlib.Core.Path.{_≡_, refl, _∙_}
 use Prim.Native.Nat.{_+_, _-_, _≤_, min}
 use native.Mathlib.Nat.{sub-self}
 use native.Mathlib.Omega.{arith}

@@ -1,9 +1,7 @@
 -- `refusal` meets its contract: five pieces, one behind the other.
 use mathlib.Core.List.{_++_}
-use denote.Ref.{now}
 use Rattle.rules.specs.Octets.{ascii}
 use Rattle.rules.specs.Program.{decimal, newline, printedRefusal}
-use Rattle.printed.specs.Text.{Laid}
 use Rattle.printed.proofs.Laying.{then, front}
 use borrow.Author.Needs.{needs}
 use Rattle.printed.proofs.refusal.Statement.{statement}

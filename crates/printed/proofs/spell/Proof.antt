@@ -1,8 +1,8 @@
 -- `spell` meets its contract. The invariant: what stands behind the place are the last digits, and the rest is still to come.
-use mathlib.Core.Path.{_≡_, sym, _∙_}
-use Prim.Native.Nat.{_-_, _≤_, _<_}
+use mathlib.Core.Path.{sym, _∙_}
+use Prim.Native.Nat.{_-_}
 use native.Mathlib.Omega.{arith}
-use lib.ListN.{length, length-set}
+use lib.ListN.{length-set}
 use denote.Ref.{now}
 use Rattle.printed.proofs.Spelling.{Spelling, spelling-none, spelling-place, spelling-more, spelling-last}
 use borrow.Author.Needs.{needs}
