@@ -1,0 +1,125 @@
+// The kinds of comparison, one after the other, within the time that is given.
+use crate::ask::{Cases, Found};
+use crate::drawing::Draw;
+use crate::writing::Model;
+use crate::{differences, guests, names, readers, writing};
+use std::collections::BTreeMap;
+use std::path::Path;
+use std::time::{Duration, Instant};
+
+fn value<'a>(words: &'a [String], name: &str, other: &'a str) -> &'a str {
+    words.iter().position(|w| w == name).and_then(|i| words.get(i + 1)).map_or(other, |s| s.as_str())
+}
+
+fn came(numbers: &BTreeMap<u32, u64>) -> String {
+    let all: Vec<String> = numbers.iter().map(|(i, n)| format!("{i}: {n}")).collect();
+    all.join(", ")
+}
+
+pub fn run(words: &[String]) -> i32 {
+    std::panic::set_hook(Box::new(|info| {
+        if !info.location().is_some_and(|l| l.file().contains("shared")) {
+            eprintln!("{info}");
+        }
+    }));
+    match words.first().map(|s| s.as_str()) {
+        Some("differences") => {
+            differences::show();
+            0
+        }
+        Some("sample") => sample(words),
+        _ => compare(words),
+    }
+}
+
+// The stored sample: some hundreds of questions, with what the Rust answers.
+fn sample(words: &[String]) -> i32 {
+    let mut cases = Cases::new(value(words, "--cases", "target/bin/oracle_cases"));
+    cases.kept = Some(Vec::new());
+    let (mut found, mut m, mut d) = (Vec::new(), Model::new(), Draw::new(1));
+    writing::sample(&mut cases, &mut m, &mut found, &mut d);
+    let kept = cases.kept.take().unwrap();
+    let folder = Path::new(value(words, "--into", "crates/oracle_cases"));
+    let stdin: String = kept.iter().map(|k| k.0.as_str()).collect();
+    let stdout: String = kept.iter().filter_map(|k| k.1.as_ref()).map(|a| a.clone() + "\n").collect();
+    std::fs::write(folder.join("stdin"), stdin).unwrap();
+    std::fs::write(folder.join("stdout"), &stdout).unwrap();
+    cases.end();
+    println!("{} answers, refusals {}; {} differences", stdout.lines().count(), came(&m.came), found.len());
+    !found.is_empty() as i32
+}
+
+fn report(found: &[Found]) {
+    for f in found.iter().filter(|f| !f.text.is_empty()) {
+        println!("DIFFERENCE ({}):\n{}", f.kind, f.text);
+    }
+}
+
+fn compare(words: &[String]) -> i32 {
+    let began = Instant::now();
+    let seed: u64 = value(words, "--seed", "1").parse().expect("--seed is a number");
+    let seconds: f64 = value(words, "--seconds", "100").parse().expect("--seconds is a number");
+    let share = |part: f64| Instant::now() + Duration::from_secs_f64(seconds * part);
+    let only = value(words, "--only", "");
+    let wanted = |kind: &str| only.is_empty() || only == kind;
+    let mut found: Vec<Found> = Vec::new();
+    println!("seed {seed}, {seconds} seconds");
+    let mut cases = Cases::new(value(words, "--cases", "target/bin/oracle_cases"));
+    let mut told = 0;
+    let mut tell = |cases: &Cases, kind: &str, found: &[Found]| {
+        println!("{kind}: {}, {} differences ({:.1} s)", cases.asked - told, found.iter().filter(|f| kind.starts_with(f.kind)).count(), began.elapsed().as_secs_f64());
+        told = cases.asked;
+    };
+    let mut d = Draw::new(seed);
+    let mut m = Model::new();
+    if wanted("names") {
+        names::short(&mut cases, &mut found);
+        names::edges(&mut cases, &mut found);
+        names::drawn(&mut cases, &mut found, &mut d, 100000);
+        tell(&cases, "names", &found);
+    }
+    if wanted("reservations") {
+        names::reservations(&mut cases, &mut found, &mut d, 20000);
+        writing::starts(&mut cases, &mut m, &mut found);
+        tell(&cases, "reservations", &found);
+    }
+    if wanted("calls") {
+        writing::sequences(&mut cases, &mut m, &mut found, 3, &[(120, 24, 2), (76, 4, 1)]);
+        writing::sequences(&mut cases, &mut m, &mut found, 4, &[(200, 24, 2)]);
+        tell(&cases, "calls in short sequences", &found);
+        let until = share(0.3);
+        writing::depths(&mut cases, &mut m, &mut found);
+        while Instant::now() < until && found.is_empty() {
+            writing::drawn(&mut cases, &mut m, &mut found, &mut d, 500);
+        }
+        tell(&cases, "calls in drawn sequences", &found);
+        println!("  answers of the Rust to calls, 0 for none refused: {}", came(&m.came));
+        println!("  a phandle given again after a call that failed (difference 2): {}", m.again);
+    }
+    cases.end();
+    if wanted("reader") {
+        let mut r = readers::Readers::new(value(words, "--reader", "target/bin/reader_cases"));
+        readers::damaged(&mut r, &mut found);
+        readers::boundaries(&mut r, &mut found);
+        let long = readers::structures(&mut r, &mut found, 5, share(0.2));
+        readers::drawn(&mut r, &mut found, &mut d, share(0.1));
+        let all = r.counts.read + r.counts.refused.values().sum::<u64>();
+        println!("reader: {all} (every structure of up to {long} words out of 7), {} read, refused {} ({:.1} s)", r.counts.read, came(&r.counts.refused), began.elapsed().as_secs_f64());
+    }
+    if wanted("guests") {
+        let room = std::env::temp_dir().join(format!("oracle-{}", std::process::id()));
+        let p = guests::program(Path::new(value(words, "--guestdt", "target/bin/guestdt")), &room);
+        if p.path.is_none() {
+            println!("guestdt is not built: the given Rust is compared with the rules alone");
+        }
+        let mut c = guests::Counts::default();
+        guests::limits(&p, &mut c, &mut found);
+        guests::drawn(&p, &mut c, &mut found, &mut d, share(0.3));
+        let _ = std::fs::remove_dir_all(&room);
+        println!("lists: {}; guests where no difference is listed: {}; where one is: {} the same, {} not; refused {} ({:.1} s)", c.lists, c.guests, c.listed_same, c.listed_apart, came(&c.refused), began.elapsed().as_secs_f64());
+        println!("runs of guestdt: {}", c.runs);
+    }
+    report(&found);
+    println!("{} unlisted differences, {:.0} s", found.len(), began.elapsed().as_secs_f64());
+    !found.is_empty() as i32
+}
