@@ -1,11 +1,23 @@
 // Asking the programs of this repository: questions go to standard input, answers come back from standard output.
 use std::io::{BufRead, BufReader, Write};
+use std::sync::OnceLock;
+use std::time::Instant;
 use std::process::{Child, ChildStdin, ChildStdout, Command, Stdio};
 
 // A difference between the two sides, as it is shown.
 pub struct Found {
     pub kind: &'static str,
     pub text: String,
+}
+
+// When the first difference came up.
+pub static FIRST: OnceLock<Instant> = OnceLock::new();
+
+impl Found {
+    pub fn new(kind: &'static str, text: String) -> Found {
+        FIRST.get_or_init(Instant::now);
+        Found { kind, text }
+    }
 }
 
 pub fn start(program: &str) -> (Child, ChildStdin, BufReader<ChildStdout>) {
@@ -95,9 +107,9 @@ impl Cases {
                 let from = if waiting[i].0.starts_with(['n', 'm']) { i } else { from };
                 let asked: String = waiting[from..=i].iter().map(|w| w.0.as_str()).collect();
                 if found.len() < 5 {
-                    found.push(Found { kind, text: format!("{asked}the Rust: {expected}\nthis:     {line}") });
+                    found.push(Found::new(kind, format!("{asked}the Rust: {expected}\nthis:     {line}")));
                 } else {
-                    found.push(Found { kind, text: String::new() });
+                    found.push(Found::new(kind, String::new()));
                 }
                 if line.is_empty() {
                     break;

@@ -138,3 +138,23 @@ pub fn reservations(cases: &mut Cases, found: &mut Vec<Found>, d: &mut Draw, cou
     }
     cases.flush("reservations", found);
 }
+
+// The names and reservations of the stored sample.
+pub fn sample(cases: &mut Cases, found: &mut Vec<Found>, d: &mut Draw) {
+    for n in [0, 1, 30, 31, 32, 63, 64] {
+        for end in [&b""[..], b"@", b"@1", b"@1@"] {
+            ask(cases, &[&vec![b'n'; n], end].concat());
+        }
+    }
+    for b in b",._+-?#@/:`{[ ~\x00\x7f\x80\xff" {
+        ask(cases, &[b'a', *b]);
+    }
+    ask(cases, "é".as_bytes());
+    drawn(cases, found, d, 60);
+    for a in [0, 1, u64::MAX - 1, u64::MAX] {
+        for s in [0, 1, 2, u64::MAX - 1, u64::MAX] {
+            made(cases, a, s);
+        }
+    }
+    cases.flush("sample", found);
+}

@@ -79,7 +79,7 @@ impl Readers {
             out.read_line(&mut line).expect("the program answers in text");
             if line != expected {
                 let text = if found.len() < 5 { format!("{} with {words} words\nby the rules{expected}this{line}", hex(blob)) } else { String::new() };
-                found.push(Found { kind: "reader", text });
+                found.push(Found::new("reader", text));
                 if line.is_empty() {
                     break;
                 }

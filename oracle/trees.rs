@@ -202,7 +202,8 @@ impl Drawn<'_> {
         self.props(&mut cpus);
         cpus.props.retain(|p| !matches!(p.0.as_str(), "#address-cells" | "#size-cells"));
         let wide = self.d.one_in(2);
-        let mut put = Tree::default().with("#address-cells", &[1 + wide as u32]).with("#size-cells", &[0]).props;
+        let sized = self.special && self.d.one_in(4);
+        let mut put = Tree::default().with("#address-cells", &[1 + wide as u32]).with("#size-cells", &[sized as u32]).props;
         cpus.props.append(&mut put);
         for k in 0..self.d.below(5) {
             let name = *self.d.pick(if self.special { &CPUS[..] } else { &["cpu@0", "cpu@1", "cpu@100", "cpu-map", "cpux@0", "l2-cache", "cpu@0,0"] });
@@ -271,8 +272,8 @@ pub fn request(d: &mut Draw, paths: &[String], ids: &[u64], wrong: bool) -> Requ
     if wrong && d.one_in(6) {
         q.configured.push(d.pick(&["/nothing", "/soc/", "//", "", "soc", "/uart"]).to_string());
     }
-    if !ids.is_empty() && !d.one_in(3) {
-        for _ in 0..d.below(4) {
+    if !ids.is_empty() && !d.one_in(6) {
+        for _ in 0..1 + d.below(3) {
             q.ids.push(*d.pick(ids));
         }
     }

@@ -395,6 +395,13 @@ fn draw_property(d: &mut Draw) -> Vec<u8> {
 
 fn draw_call(d: &mut Draw, state: &State) -> Question {
     let depth = state.node_depth;
+    // Calls that are refused whatever they say are kept rare.
+    if state.finished && !d.one_in(4) {
+        return plain(b'0');
+    }
+    if depth == 0 && d.one_in(2) {
+        return named(b'b', b"", b"");
+    }
     match d.below(24) {
         0..=4 => named(b'b', &if d.one_in(3) { draw_name(d) } else { d.pick(&[&b""[..], b"a", b"soc", b"uart@100"]).to_vec() }, b""),
         5..=8 => numbered(b'e', if d.one_in(5) { d.below(4) as u64 } else { depth }),
@@ -514,11 +521,70 @@ pub fn depths(cases: &mut Cases, m: &mut Model, found: &mut Vec<Found>) {
     cases.flush("calls in drawn sequences", found);
 }
 
+// Calls that meet each refusal, in the order in which the paper tests.
+fn refusals(cases: &mut Cases, m: &mut Model) {
+    m.lend(cases, 400, 60, 2);
+    for q in [
+        named(b'b', b"", b""),
+        plain(b'0'),
+        named(b'p', b"a/", b""),
+        named(b't', b"a/", b"x\0"),
+        named(b'b', b"a@b@c", b""),
+        named(b'b', b"a/\0", b""),
+        named(b'b', &[b'n'; 32], b""),
+        named(b'b', b"\xff", b""),
+        named(b'b', b"", b""),
+        named(b'p', b"a", b"1"),
+        named(b'p', b"a/", b""),
+        named(b'p', b"a/\0", b""),
+        named(b'p', &[b'p'; 32], b""),
+        named(b'p', &[b'p'; 31], b"12345"),
+        named(b'z', b"#z", b""),
+        named(b't', b"t", b"text"),
+        named(b'k', b"l", b"one\0two\0"),
+        named(b'k', b"l", b"one\0two"),
+        Question { a: 0x01020304, ..named(b'w', b"w", b"") },
+        Question { a: 0x0102030405060708, ..named(b'q', b"q", b"") },
+        named(b'c', b"c", b"\0\0\0\x01\0\0\0\x02"),
+        named(b'd', b"d", b"\0\0\0\0\0\0\0\x03"),
+        numbered(b'h', 7),
+        numbered(b'h', 7),
+        plain(b'f'),
+        numbered(b'e', 0),
+        numbered(b'e', 2),
+        numbered(b'e', 1),
+        named(b'p', b"a", b""),
+        numbered(b'h', 8),
+        numbered(b'i', 3),
+        named(b'b', b"again", b""),
+        numbered(b'h', 8),
+        numbered(b'h', 9),
+        numbered(b'e', 1),
+        plain(b'f'),
+        plain(b'f'),
+        numbered(b'i', 4),
+    ] {
+        m.call(cases, q);
+    }
+    for (list, count) in [(&[(0, 4096), (4096, 1)][..], 2), (&[(0, 4097), (4096, 1)], 2), (&[(4096, 1), (0, 4097)], 2), (&[(u64::MAX - 1, 1)], 1), (&[(0, 1)], 33)] {
+        m.call(cases, reserve(list, count));
+    }
+    for (field, number) in [(0, 52), (0, 57), (1, 52), (1, 60), (4, 65)] {
+        m.call(cases, plain(b'0'));
+        m.call(cases, Question { b: number, ..numbered(b'a', field) });
+        m.call(cases, named(b'b', b"", b""));
+    }
+    m.lend(cases, 900, 8, 0);
+    m.call(cases, plain(b'0'));
+    for _ in 0..65 {
+        m.call(cases, named(b'b', b"", b""));
+    }
+    m.call(cases, numbered(b'h', 1));
+}
+
 // Some hundreds of questions for the repository to keep, with every refusal that can come.
 pub fn sample(cases: &mut Cases, m: &mut Model, found: &mut Vec<Found>, d: &mut Draw) {
-    let mut tried = 0;
-    while tried < 12 {
-        drawn(cases, m, found, d, 1);
-        tried += 1;
-    }
+    refusals(cases, m);
+    cases.flush("sample", found);
+    drawn(cases, m, found, d, 14);
 }
