@@ -1,8 +1,8 @@
 // Asking the programs of this repository: questions go to standard input, answers come back from standard output.
 use std::io::{BufRead, BufReader, Write};
+use std::process::{Child, ChildStdin, ChildStdout, Command, Stdio};
 use std::sync::OnceLock;
 use std::time::Instant;
-use std::process::{Child, ChildStdin, ChildStdout, Command, Stdio};
 
 // A difference between the two sides, as it is shown.
 pub struct Found {
@@ -21,7 +21,8 @@ impl Found {
 }
 
 pub fn start(program: &str) -> (Child, ChildStdin, BufReader<ChildStdout>) {
-    let mut child = Command::new(program).stdin(Stdio::piped()).stdout(Stdio::piped()).spawn().expect("the program starts");
+    let mut child =
+        Command::new(program).stdin(Stdio::piped()).stdout(Stdio::piped()).spawn().expect("the program starts");
     let into = child.stdin.take().unwrap();
     let out = BufReader::with_capacity(1 << 16, child.stdout.take().unwrap());
     (child, into, out)
@@ -44,7 +45,14 @@ pub fn hex(s: &[u8]) -> String {
 impl Question {
     pub fn lines(&self) -> String {
         let (n, v) = (2 * self.name.len(), 2 * self.val.len());
-        format!("{} {:016x} {:016x} {n:04x} {v:04x}\n{}{}\n", self.op as char, self.a, self.b, hex(&self.name), hex(&self.val))
+        format!(
+            "{} {:016x} {:016x} {n:04x} {v:04x}\n{}{}\n",
+            self.op as char,
+            self.a,
+            self.b,
+            hex(&self.name),
+            hex(&self.val)
+        )
     }
 }
 

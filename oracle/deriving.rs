@@ -291,13 +291,15 @@ pub fn lines(input: &[u8]) -> Result<Request, Refused> {
         match line[0] {
             b'c' => q.configured.push(text),
             b'x' => q.excluded.push(text),
-            b'i' if !text.is_empty() && text.bytes().all(|b| b.is_ascii_digit()) => match text.trim_start_matches('0') {
-                "" => q.ids.push(0),
-                digits => match digits.parse() {
-                    Ok(n) => q.ids.push(n),
-                    Err(_) => return refused(41, at),
-                },
-            },
+            b'i' if !text.is_empty() && text.bytes().all(|b| b.is_ascii_digit()) => {
+                match text.trim_start_matches('0') {
+                    "" => q.ids.push(0),
+                    digits => match digits.parse() {
+                        Ok(n) => q.ids.push(n),
+                        Err(_) => return refused(41, at),
+                    },
+                }
+            }
             _ => return refused(41, at),
         }
         at += len + 1;

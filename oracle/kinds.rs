@@ -1,10 +1,10 @@
 // The kinds of comparison, one after the other, within the time that is given.
 use crate::ask::{Cases, FIRST, Found};
-use crate::drawing::Draw;
 use crate::differences::Sides;
+use crate::drawing::Draw;
 use crate::guests::Program;
 use crate::writing::Model;
-use crate::{guests, names, readers, writing};
+use crate::{guests, names, readers, references, writing};
 use std::collections::BTreeMap;
 use std::io::{Read, Write};
 use std::path::Path;
@@ -82,7 +82,12 @@ fn compare(words: &[String]) -> i32 {
     let mut cases = Cases::new(value(words, "--cases", "target/bin/oracle_cases"));
     let mut told = 0;
     let tell = |cases: &Cases, kind: &str, found: &[Found], told: &mut u64| {
-        println!("{kind}: {}, {} differences ({:.1} s)", cases.asked - *told, found.iter().filter(|f| kind.starts_with(f.kind)).count(), began.elapsed().as_secs_f64());
+        println!(
+            "{kind}: {}, {} differences ({:.1} s)",
+            cases.asked - *told,
+            found.iter().filter(|f| kind.starts_with(f.kind)).count(),
+            began.elapsed().as_secs_f64()
+        );
         *told = cases.asked;
     };
     let mut d = Draw::new(seed);
@@ -93,7 +98,14 @@ fn compare(words: &[String]) -> i32 {
         println!("guestdt is not built: lists and guests are compared with the rules alone");
     }
     if wanted("differences") {
-        let mut s = Sides { cases: &mut cases, model: &mut m, program: &p, found: &mut found, shown: only == "differences", count: 0 };
+        let mut s = Sides {
+            cases: &mut cases,
+            model: &mut m,
+            program: &p,
+            found: &mut found,
+            shown: only == "differences",
+            count: 0,
+        };
         s.all();
         let count = s.count;
         println!("listed differences, each on a smallest input: {count}, {} not as listed", found.len());
@@ -109,6 +121,10 @@ fn compare(words: &[String]) -> i32 {
         names::reservations(&mut cases, &mut found, &mut d, 20000);
         writing::starts(&mut cases, &mut m, &mut found);
         tell(&cases, "reservations", &found, &mut told);
+    }
+    if wanted("references") {
+        references::compare(&mut cases, &mut found, &mut d);
+        tell(&cases, "references", &found, &mut told);
     }
     if wanted("calls") {
         writing::sequences(&mut cases, &mut m, &mut found, 3, &[(120, 24, 2), (76, 4, 1)]);
@@ -131,7 +147,12 @@ fn compare(words: &[String]) -> i32 {
         let long = readers::structures(&mut r, &mut found, 5, share(0.2));
         readers::drawn(&mut r, &mut found, &mut d, share(0.1));
         let all = r.counts.read + r.counts.refused.values().sum::<u64>();
-        println!("reader: {all} (every structure of up to {long} words out of 7), {} read, refused {} ({:.1} s)", r.counts.read, came(&r.counts.refused), began.elapsed().as_secs_f64());
+        println!(
+            "reader: {all} (every structure of up to {long} words out of 7), {} read, refused {} ({:.1} s)",
+            r.counts.read,
+            came(&r.counts.refused),
+            began.elapsed().as_secs_f64()
+        );
     }
     if wanted("guests") {
         let mut c = guests::Counts::default();
@@ -140,7 +161,16 @@ fn compare(words: &[String]) -> i32 {
         if p.path.is_some() {
             guests::drawn(&p, &mut c, &mut found, &mut d, share(0.25));
         }
-        println!("lists: {}; guests where no difference is listed: {}; where one is: {} the same, {} not ({}); refused {} ({:.1} s)", c.lists, c.guests, c.listed_same, c.listed_apart, came(&c.by_number), came(&c.refused), began.elapsed().as_secs_f64());
+        println!(
+            "lists: {}; guests where no difference is listed: {}; where one is: {} the same, {} not ({}); refused {} ({:.1} s)",
+            c.lists,
+            c.guests,
+            c.listed_same,
+            c.listed_apart,
+            came(&c.by_number),
+            came(&c.refused),
+            began.elapsed().as_secs_f64()
+        );
         println!("runs of guestdt: {}", c.runs);
     }
     let _ = std::fs::remove_dir_all(&room);

@@ -36,6 +36,7 @@ mod kinds;
 mod names;
 mod readers;
 mod reading;
+mod references;
 mod stand_ins;
 mod trees;
 mod writing;

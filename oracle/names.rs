@@ -112,7 +112,14 @@ pub fn limits() -> Vec<u64> {
     let mut all = Vec::new();
     for k in [0, 1, 2, 3, 7, 8, 15, 16, 31, 32, 33, 48, 62, 63] {
         let p = 1u64 << k;
-        all.extend([p - 1, p, p + 1, p.wrapping_neg(), p.wrapping_neg().wrapping_sub(1), p.wrapping_neg().wrapping_add(1)]);
+        all.extend([
+            p - 1,
+            p,
+            p + 1,
+            p.wrapping_neg(),
+            p.wrapping_neg().wrapping_sub(1),
+            p.wrapping_neg().wrapping_add(1),
+        ]);
     }
     all.sort();
     all.dedup();

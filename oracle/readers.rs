@@ -78,7 +78,11 @@ impl Readers {
             line.clear();
             out.read_line(&mut line).expect("the program answers in text");
             if line != expected {
-                let text = if found.len() < 5 { format!("{} with {words} words\nby the rules{expected}this{line}", hex(blob)) } else { String::new() };
+                let text = if found.len() < 5 {
+                    format!("{} with {words} words\nby the rules{expected}this{line}", hex(blob))
+                } else {
+                    String::new()
+                };
                 found.push(Found::new("reader", text));
                 if line.is_empty() {
                     break;
@@ -96,7 +100,22 @@ fn wrap(structure: &[u32], strings: &[u8]) -> Vec<u8> {
     let size = 4 * structure.len() as u32;
     let mut out: Vec<u8> = Vec::new();
     let mut put = |v: u32| out.extend(v.to_be_bytes());
-    for v in [0xd00dfeed, 56 + size + strings.len() as u32, 56, 56 + size, 40, 17, 16, 0, strings.len() as u32, size, 0, 0, 0, 0] {
+    for v in [
+        0xd00dfeed,
+        56 + size + strings.len() as u32,
+        56,
+        56 + size,
+        40,
+        17,
+        16,
+        0,
+        strings.len() as u32,
+        size,
+        0,
+        0,
+        0,
+        0,
+    ] {
         put(v);
     }
     for &v in structure {
@@ -143,9 +162,29 @@ pub fn structures(r: &mut Readers, found: &mut Vec<Found>, long: u32, until: Ins
 
 // A small blob that has each kind of item, and a larger.
 fn good() -> Vec<Vec<u8>> {
-    let small = Tree::default().with("#clock-cells", &[1]).child(Tree::named("a@1").with("phandle", &[7]).with("linux,phandle", &[7])).child(Tree::named("b").with("p", &[1]).child(Tree::named("c")));
+    let small = Tree::default()
+        .with("#clock-cells", &[1])
+        .child(Tree::named("a@1").with("phandle", &[7]).with("linux,phandle", &[7]))
+        .child(Tree::named("b").with("p", &[1]).child(Tree::named("c")));
     let layout = Layout { nops: true, gap: 4, reservations: 2, endings: true, behind: 3 };
-    vec![trees::blob(&small, Layout::default()), trees::blob(&small, layout), trees::blob(&crate::guests::bench(), Layout::default())]
+    vec![
+        trees::blob(&small, Layout::default()),
+        trees::blob(&small, layout),
+        trees::blob(&crate::guests::bench(), Layout::default()),
+        roomy(&small),
+    ]
+}
+
+// The blocks apart, with zeros between: a wrong offset or size then meets nothing else that is wrong.
+fn roomy(t: &Tree) -> Vec<u8> {
+    let plain = trees::blob(t, Layout::default());
+    let word = |at: usize| u32::from_be_bytes(plain[at..at + 4].try_into().unwrap());
+    let strings = word(12) as usize;
+    let mut out = [&plain[..56], &[0; 64], &plain[56..strings], &[0; 32], &plain[strings..], &[0; 32]].concat();
+    for (at, more) in [(4, 128), (8, 64), (12, 96)] {
+        out[at..at + 4].copy_from_slice(&(word(at) + more).to_be_bytes());
+    }
+    out
 }
 
 // Each length, each number of the header, each word and each byte changed in turn.
@@ -161,7 +200,25 @@ pub fn damaged(r: &mut Readers, found: &mut Vec<Found>) {
         for field in 0..10 {
             let old = u32::from_be_bytes(blob[4 * field..4 * field + 4].try_into().unwrap());
             let near = (-20..=20).map(|k| old.wrapping_add_signed(k));
-            let far = [0, 1, 4, 8, 39, 40, 41, 48, 56, 1 << 20, (1 << 20) + 1, 1 << 31, u32::MAX, u32::MAX - 3, u32::MAX - 7, old.swap_bytes(), old.wrapping_neg()];
+            let far = [
+                0,
+                1,
+                4,
+                8,
+                39,
+                40,
+                41,
+                48,
+                56,
+                1 << 20,
+                (1 << 20) + 1,
+                1 << 31,
+                u32::MAX,
+                u32::MAX - 3,
+                u32::MAX - 7,
+                old.swap_bytes(),
+                old.wrapping_neg(),
+            ];
             for v in near.chain(far) {
                 let mut b = blob.clone();
                 b[4 * field..4 * field + 4].copy_from_slice(&v.to_be_bytes());
@@ -215,7 +272,11 @@ pub fn boundaries(r: &mut Readers, found: &mut Vec<Found>) {
     for n in (0..36).chain([62, 63, 64]) {
         let name = "x".repeat(n);
         r.ask(trees::blob(&Tree::default().child(Tree::named(&name)), Layout::default()), WORDS, found);
-        r.ask(trees::blob(&Tree::default().child(Tree::named(&(name.clone() + "@1"))), Layout::default()), WORDS, found);
+        r.ask(
+            trees::blob(&Tree::default().child(Tree::named(&(name.clone() + "@1"))), Layout::default()),
+            WORDS,
+            found,
+        );
         r.ask(trees::blob(&Tree::default().with(&name, &[1]), Layout::default()), WORDS, found);
     }
     for total in [(1 << 20) - 1, 1 << 20, (1 << 20) + 1] {

@@ -53,9 +53,7 @@ impl<'a> Node<'a> {
         let (address, size) = self.cells;
         let row = 4 * (address + size);
         let rows = value.chunks(row.max(4)).filter(move |r| r.len() == row);
-        Some(rows.map(move |r| RegEntry {
-            address: r[..4 * address].iter().fold(0, |n, &b| n << 8 | b as u64),
-        }))
+        Some(rows.map(move |r| RegEntry { address: r[..4 * address].iter().fold(0, |n, &b| n << 8 | b as u64) }))
     }
 
     fn cell(&self, name: &str, other: usize) -> usize {
@@ -90,7 +88,9 @@ impl<'a> Fdt<'a> {
             match token {
                 1 => {
                     let name = text(blob, at);
-                    let cells = open.last().map_or((2, 1), |&p| (nodes[p].cell("#address-cells", 2), nodes[p].cell("#size-cells", 1)));
+                    let cells = open
+                        .last()
+                        .map_or((2, 1), |&p| (nodes[p].cell("#address-cells", 2), nodes[p].cell("#size-cells", 1)));
                     at = (at + name.len() + 4) & !3;
                     open.push(nodes.len());
                     let name = if open.len() == 1 { "/" } else { name };

@@ -52,7 +52,8 @@ fn pad(s: &mut Vec<u8>, with: u8) {
 
 fn offset(strings: &mut Vec<u8>, name: &str, endings: bool) -> usize {
     let whole = [name.as_bytes(), b"\0"].concat();
-    let at = (0..strings.len()).find(|&i| strings[i..].starts_with(&whole) && (endings || i == 0 || strings[i - 1] == 0));
+    let at =
+        (0..strings.len()).find(|&i| strings[i..].starts_with(&whole) && (endings || i == 0 || strings[i - 1] == 0));
     at.unwrap_or_else(|| {
         strings.extend(&whole);
         strings.len() - whole.len()
@@ -110,19 +111,79 @@ pub fn blob(t: &Tree, l: Layout) -> Vec<u8> {
 }
 
 const NAMES: [&str; 26] = [
-    "soc", "soc2", "soc-a", "soc.b", "soc0", "uart@100", "uart@10", "uart", "a", "a.b", "a-b", "a0", "a,b", "b", "clk", "pd", "dma@200", "bus",
-    "leaf", "x@", "pinctrl", "gpio@1", "reserved-memory", "chosen", "thermal", "psci",
+    "soc",
+    "soc2",
+    "soc-a",
+    "soc.b",
+    "soc0",
+    "uart@100",
+    "uart@10",
+    "uart",
+    "a",
+    "a.b",
+    "a-b",
+    "a0",
+    "a,b",
+    "b",
+    "clk",
+    "pd",
+    "dma@200",
+    "bus",
+    "leaf",
+    "x@",
+    "pinctrl",
+    "gpio@1",
+    "reserved-memory",
+    "chosen",
+    "thermal",
+    "psci",
 ];
 // Names that the listed differences turn on.
 const SPECIAL: [&str; 8] = ["memory", "memory@0", "memory-controller", "cpus", "cpus2", "cpusets", "cpu", "cpu@0"];
 const CPUS: [&str; 9] = ["cpu@0", "cpu@1", "cpu@100", "cpu", "cpu-map", "cpux@0", "idle-states", "l2-cache", "cpu@0,0"];
 
 const REFERENCES: [&str; 40] = [
-    "clocks", "power-domains", "phys", "resets", "dmas", "thermal-sensors", "mboxes", "assigned-clocks", "interrupt-parent", "phy-handle",
-    "msi-parent", "memory-region", "syscon", "regmap", "iommus", "interconnects", "nvmem-cells", "sound-dai", "pinctrl-0", "pinctrl-1",
-    "pinctrl-2", "pinctrl-3", "pinctrl-4", "gpios", "vcc-supply", "-supply", "cs-gpios", "-gpios", "reset-gpio", "-gpio", "cells", "my-cellsx",
+    "clocks",
+    "power-domains",
+    "phys",
+    "resets",
+    "dmas",
+    "thermal-sensors",
+    "mboxes",
+    "assigned-clocks",
+    "interrupt-parent",
+    "phy-handle",
+    "msi-parent",
+    "memory-region",
+    "syscon",
+    "regmap",
+    "iommus",
+    "interconnects",
+    "nvmem-cells",
+    "sound-dai",
+    "pinctrl-0",
+    "pinctrl-1",
+    "pinctrl-2",
+    "pinctrl-3",
+    "pinctrl-4",
+    "gpios",
+    "vcc-supply",
+    "-supply",
+    "cs-gpios",
+    "-gpios",
+    "reset-gpio",
+    "-gpio",
+    "cells",
+    "my-cellsx",
     // and names that are none
-    "pwms", "interrupts", "interrupts-extended", "supply", "gpio", "clock", "pinctrl-5", "#my-cells",
+    "pwms",
+    "interrupts",
+    "interrupts-extended",
+    "supply",
+    "gpio",
+    "clock",
+    "pinctrl-5",
+    "#my-cells",
 ];
 
 pub struct Drawn<'a> {
@@ -148,7 +209,11 @@ impl Drawn<'_> {
             }
         };
         for _ in 0..self.d.below(4) {
-            let name = if self.d.one_in(5) { *self.d.pick(&["compatible", "reg", "status", "p"]) } else { *self.d.pick(&REFERENCES) };
+            let name = if self.d.one_in(5) {
+                *self.d.pick(&["compatible", "reg", "status", "p"])
+            } else {
+                *self.d.pick(&REFERENCES)
+            };
             let value = self.value();
             put(t, name, value);
         }
@@ -203,10 +268,15 @@ impl Drawn<'_> {
         cpus.props.retain(|p| !matches!(p.0.as_str(), "#address-cells" | "#size-cells"));
         let wide = self.d.one_in(2);
         let sized = self.special && self.d.one_in(4);
-        let mut put = Tree::default().with("#address-cells", &[1 + wide as u32]).with("#size-cells", &[sized as u32]).props;
+        let mut put =
+            Tree::default().with("#address-cells", &[1 + wide as u32]).with("#size-cells", &[sized as u32]).props;
         cpus.props.append(&mut put);
         for k in 0..self.d.below(5) {
-            let name = *self.d.pick(if self.special { &CPUS[..] } else { &["cpu@0", "cpu@1", "cpu@100", "cpu-map", "cpux@0", "l2-cache", "cpu@0,0"] });
+            let name = *self.d.pick(if self.special {
+                &CPUS[..]
+            } else {
+                &["cpu@0", "cpu@1", "cpu@100", "cpu-map", "cpux@0", "l2-cache", "cpu@0,0"]
+            });
             if cpus.children.iter().any(|c| c.name == name) {
                 continue;
             }
@@ -251,7 +321,13 @@ pub fn layout(d: &mut Draw) -> Layout {
     if d.one_in(2) {
         return Layout::default();
     }
-    Layout { nops: d.one_in(2), gap: 4 * d.below(3), reservations: d.below(4), endings: d.one_in(2), behind: d.below(5) }
+    Layout {
+        nops: d.one_in(2),
+        gap: 4 * d.below(3),
+        reservations: d.below(4),
+        endings: d.one_in(2),
+        behind: d.below(5),
+    }
 }
 
 // A request about the nodes of these paths; `wrong`: it may be one that is refused.

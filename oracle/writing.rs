@@ -82,7 +82,16 @@ fn texts(val: &[u8]) -> Option<Vec<String>> {
 
 impl Model {
     pub fn new() -> Model {
-        Model { given: None, state: NOTHING, data: Vec::new(), strings: Vec::new(), phandles: Vec::new(), came: BTreeMap::new(), used_up: Vec::new(), again: 0 }
+        Model {
+            given: None,
+            state: NOTHING,
+            data: Vec::new(),
+            strings: Vec::new(),
+            phandles: Vec::new(),
+            came: BTreeMap::new(),
+            used_up: Vec::new(),
+            again: 0,
+        }
     }
 
     fn impossible(&self, q: &Question) -> bool {
@@ -112,7 +121,8 @@ impl Model {
         if count > 32 {
             return 33;
         }
-        let made = Model::entries(&q.val, count as usize).and_then(|e| if e.is_empty() { FdtWriter::new() } else { FdtWriter::new_with_mem_reserv(&e) });
+        let made = Model::entries(&q.val, count as usize)
+            .and_then(|e| if e.is_empty() { FdtWriter::new() } else { FdtWriter::new_with_mem_reserv(&e) });
         match made {
             Err(e) => number(e),
             Ok(w) => {
@@ -403,7 +413,11 @@ fn draw_call(d: &mut Draw, state: &State) -> Question {
         return named(b'b', b"", b"");
     }
     match d.below(24) {
-        0..=4 => named(b'b', &if d.one_in(3) { draw_name(d) } else { d.pick(&[&b""[..], b"a", b"soc", b"uart@100"]).to_vec() }, b""),
+        0..=4 => named(
+            b'b',
+            &if d.one_in(3) { draw_name(d) } else { d.pick(&[&b""[..], b"a", b"soc", b"uart@100"]).to_vec() },
+            b"",
+        ),
         5..=8 => numbered(b'e', if d.one_in(5) { d.below(4) as u64 } else { depth }),
         9..=11 => {
             let n = d.below(20);
@@ -412,21 +426,29 @@ fn draw_call(d: &mut Draw, state: &State) -> Question {
         }
         12 => named(b'z', &draw_property(d), b""),
         13 => {
-            let val = if d.one_in(3) { d.bytes(5) } else { d.pick(&[&b""[..], b"text", b"a\0b", "é".as_bytes()]).to_vec() };
+            let val =
+                if d.one_in(3) { d.bytes(5) } else { d.pick(&[&b""[..], b"text", b"a\0b", "é".as_bytes()]).to_vec() };
             named(b't', &draw_property(d), &val)
         }
         14 => {
-            let val = d.pick(&[&b""[..], b"\0", b"one\0", b"one\0two\0", b"one\0two", b"\0\0", b"\xff\0", b"x"]).to_vec();
+            let val =
+                d.pick(&[&b""[..], b"\0", b"one\0", b"one\0two\0", b"one\0two", b"\0\0", b"\xff\0", b"x"]).to_vec();
             named(b'k', &draw_property(d), &val)
         }
         15 => Question { a: d.next(), ..named(b'w', &draw_property(d), b"") },
         16 => Question { a: d.next(), ..named(b'q', &draw_property(d), b"") },
         17 => {
-            let val = { let n = 4 * d.below(4); d.bytes(n) };
+            let val = {
+                let n = 4 * d.below(4);
+                d.bytes(n)
+            };
             named(b'c', &draw_property(d), &val)
         }
         18 => {
-            let val = { let n = 8 * d.below(4); d.bytes(n) };
+            let val = {
+                let n = 8 * d.below(4);
+                d.bytes(n)
+            };
             named(b'd', &draw_property(d), &val)
         }
         19 | 20 => numbered(b'h', d.below(6) as u64),
@@ -510,7 +532,14 @@ pub fn depths(cases: &mut Cases, m: &mut Model, found: &mut Vec<Found>) {
     // Every room around what each call needs.
     for extra in 0..80 {
         m.lend(cases, 56 + extra, extra / 2, 1);
-        for q in [plain(b'0'), named(b'b', b"", b""), named(b'p', b"ab", b"12345"), numbered(b'h', 9), named(b'b', b"abc", b""), named(b't', b"ab", b"xyz")] {
+        for q in [
+            plain(b'0'),
+            named(b'b', b"", b""),
+            named(b'p', b"ab", b"12345"),
+            numbered(b'h', 9),
+            named(b'b', b"abc", b""),
+            named(b't', b"ab", b"xyz"),
+        ] {
             m.call(cases, q);
         }
         for depth in [2, 1] {
@@ -566,7 +595,13 @@ fn refusals(cases: &mut Cases, m: &mut Model) {
     ] {
         m.call(cases, q);
     }
-    for (list, count) in [(&[(0, 4096), (4096, 1)][..], 2), (&[(0, 4097), (4096, 1)], 2), (&[(4096, 1), (0, 4097)], 2), (&[(u64::MAX - 1, 1)], 1), (&[(0, 1)], 33)] {
+    for (list, count) in [
+        (&[(0, 4096), (4096, 1)][..], 2),
+        (&[(0, 4097), (4096, 1)], 2),
+        (&[(4096, 1), (0, 4097)], 2),
+        (&[(u64::MAX - 1, 1)], 1),
+        (&[(0, 1)], 33),
+    ] {
         m.call(cases, reserve(list, count));
     }
     for (field, number) in [(0, 52), (0, 57), (1, 52), (1, 60), (4, 65)] {

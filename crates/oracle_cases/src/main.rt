@@ -1,5 +1,5 @@
-// Answers questions from standard input, a line to each: the tests of names, the maker of reservations and every call of the
-// writer. oracle/ asks it while it runs the given Rust beside; the file `stdin` beside this source holds questions that it once
+// Answers questions from standard input, a line to each: the tests of names, the maker of reservations, the table of references
+// and every call of the writer. oracle/ asks it while it runs the given Rust beside; the file `stdin` beside this source holds questions that it once
 // asked, and `stdout` what the Rust answered.
 //
 // A question is a line of 45 characters and one of bytes. The first has a letter, two numbers of 16 hexadecimal digits, and two
@@ -9,6 +9,7 @@ mod script;
 mod tell;
 
 use libc::STDIN_FILENO;
+use references::rows;
 use reservation::Made;
 use reservation::Reservation;
 use rules::RESERVATION_CEILING;
@@ -236,6 +237,14 @@ fn judged(name: &[u8]) {
     );
 }
 
+// Whether a property of this name holds references, and whether it asks its targets for this cells property.
+fn refers(name: &[u8], cells: &[u8]) {
+    tell::refers(
+        rows::is_phandle_property(name),
+        rows::is_cells(rows::cells_name(name), cells),
+    );
+}
+
 fn made(address: u64, size: u64) {
     match Reservation::new(address, size) {
         Made::Reserved(r) => tell::made(0, r.address(), r.size()),
@@ -301,6 +310,10 @@ fn answer(
         }
         b'm' => {
             made(q.a, q.b);
+            s
+        }
+        b'r' => {
+            refers(name, val);
             s
         }
         b'l' => {

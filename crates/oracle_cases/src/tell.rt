@@ -124,6 +124,14 @@ pub(crate) fn name(node: bool, property: bool, node_reads: bool, property_reads:
     show(&line, 5);
 }
 
+// Writes a digit for each.
+pub(crate) fn refers(reference: bool, cells: bool) {
+    let mut line = [b'\n'; LINE];
+    put(&mut line, 0, flag(reference), 1);
+    put(&mut line, 1, flag(cells), 1);
+    show(&line, 3);
+}
+
 // Writes what the maker of reservations answers: 27 or 00, and what the reservation holds.
 pub(crate) fn made(refusal: u64, address: u64, size: u64) {
     let mut line = [b' '; LINE];
