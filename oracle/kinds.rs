@@ -144,6 +144,7 @@ fn compare(words: &[String]) -> i32 {
         let mut r = readers::Readers::new(value(words, "--reader", "target/bin/reader_cases"));
         readers::damaged(&mut r, &mut found);
         readers::boundaries(&mut r, &mut found);
+        readers::crowded(&mut r, &mut found);
         let long = readers::structures(&mut r, &mut found, 5, share(0.2));
         readers::drawn(&mut r, &mut found, &mut d, share(0.1));
         let all = r.counts.read + r.counts.refused.values().sum::<u64>();
@@ -157,6 +158,8 @@ fn compare(words: &[String]) -> i32 {
     if wanted("guests") {
         let mut c = guests::Counts::default();
         guests::limits(&p, &mut c, &mut found);
+        guests::large(&p, &mut c, &mut found);
+        guests::stored(&p, &mut c, &mut found, &mut d);
         guests::drawn(&Program { path: None, room: room.clone() }, &mut c, &mut found, &mut d, share(0.1));
         if p.path.is_some() {
             guests::drawn(&p, &mut c, &mut found, &mut d, share(0.25));

@@ -292,6 +292,33 @@ pub fn boundaries(r: &mut Readers, found: &mut Vec<Found>) {
     r.flush(found);
 }
 
+// Nodes of very many properties, the last or the first of which comes twice; so many that they don't fit the work space at once.
+pub fn crowded(r: &mut Readers, found: &mut Vec<Found>) {
+    for n in [2000, 8190, 8191, 8192, 8193, 8194, 16382, 16383, 16384, 16385, 16386, 20000, 32770] {
+        for twice in [None, Some(0), Some(1), Some(n / 2), Some(n - 2), Some(n - 1)] {
+            // Names of four letters, in an order that is not theirs.
+            let name = |i: usize| {
+                let k = i * 40503 % 65536;
+                [
+                    b'a' + (k >> 12) as u8,
+                    b'a' + (k >> 8 & 15) as u8,
+                    b'a' + (k >> 4 & 15) as u8,
+                    b'a' + (k & 15) as u8,
+                    0,
+                ]
+            };
+            let mut s = vec![1, 0];
+            for i in (0..n).chain(twice) {
+                s.extend([3, 0, 5 * i as u32]);
+            }
+            s.extend([2, 9]);
+            let strings: Vec<u8> = (0..n).flat_map(name).collect();
+            r.ask(wrap(&s, &strings), WORDS, found);
+        }
+    }
+    r.flush(found);
+}
+
 // Drawn trees, whole and damaged, until the time is over.
 pub fn drawn(r: &mut Readers, found: &mut Vec<Found>, d: &mut Draw, until: Instant) {
     while Instant::now() < until {

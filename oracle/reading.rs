@@ -180,11 +180,8 @@ fn passes(nodes: &mut [Node]) -> Result<(), Refused> {
         }
     }
     for n in nodes.iter() {
-        for (i, p) in n.props.iter().enumerate() {
-            if n.props[..i].iter().any(|q| q.name == p.name) {
-                twins.push(p.place);
-            }
-        }
+        let mut names = std::collections::HashSet::new();
+        twins.extend(n.props.iter().filter(|p| !names.insert(&p.name)).map(|p| p.place));
     }
     if let Some(&first) = twins.iter().min() {
         return refused(10, first);
