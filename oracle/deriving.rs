@@ -271,6 +271,38 @@ pub fn answer(blob: &[u8], q: &Request, list_room: usize, guest_room: usize) -> 
     Ok(Answer { list, guest })
 }
 
+// The paths of a list as it is lent, each closed by a NUL; or the offset of the first that is at fault.
+fn paths_of(list: &[u8]) -> Result<Vec<String>, Refused> {
+    let mut paths = Vec::new();
+    let mut at = 0;
+    while at < list.len() {
+        let Some(len) = list[at..].iter().position(|&b| b == 0) else { return refused(41, at) };
+        let path = &list[at..at + len];
+        if paths.len() == 64 || path.first() != Some(&b'/') || len > 1024 {
+            return refused(41, at);
+        }
+        // Bytes that are not ASCII name no node; one character stands for each, so that lengths stay.
+        paths.push(path.iter().map(|&b| if b < 128 { b as char } else { '\x7f' }).collect());
+        at += len + 1;
+    }
+    Ok(paths)
+}
+
+// The derivation as a library: with work space of so many words, and lists as they are lent.
+pub fn library(
+    blob: &[u8],
+    configured: &[u8],
+    excluded: &[u8],
+    ids: &[u64],
+    words: usize,
+    list_room: usize,
+    guest_room: usize,
+) -> Result<Answer, Refused> {
+    reading::read(blob, words)?;
+    let q = Request { configured: paths_of(configured)?, excluded: paths_of(excluded)?, ids: ids.to_vec() };
+    answer(blob, &q, list_room, guest_room)
+}
+
 const PROGRAM: usize = 65536;
 
 // The request that the program's input spells, or 41.

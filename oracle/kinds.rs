@@ -1,5 +1,6 @@
 // The kinds of comparison, one after the other, within the time that is given.
 use crate::ask::{Cases, FIRST, Found};
+use crate::derivations::Derivations;
 use crate::differences::Sides;
 use crate::drawing::Draw;
 use crate::guests::Program;
@@ -51,6 +52,7 @@ fn sample(words: &[String]) -> i32 {
     cases.kept = Some(Vec::new());
     let (mut found, mut m, mut d) = (Vec::new(), Model::new(), Draw::new(1));
     names::sample(&mut cases, &mut found, &mut d);
+    references::sample(&mut cases, &mut found);
     writing::sample(&mut cases, &mut m, &mut found, &mut d);
     let kept = cases.kept.take().unwrap();
     let folder = Path::new(value(words, "--into", "crates/oracle_cases"));
@@ -59,6 +61,17 @@ fn sample(words: &[String]) -> i32 {
     std::fs::write(folder.join("stdin"), stdin).unwrap();
     std::fs::write(folder.join("stdout"), &stdout).unwrap();
     cases.end();
+    let library = value(words, "--derive", "target/bin/derive_cases");
+    if Path::new(library).exists() {
+        let mut l = Derivations::new(library);
+        l.kept = Some((Vec::new(), String::new()));
+        guests::sample(&mut l, &mut found, &mut d);
+        let (stdin, stdout) = l.kept.take().unwrap();
+        let folder = Path::new("crates/derive_cases");
+        std::fs::write(folder.join("stdin"), stdin).unwrap();
+        std::fs::write(folder.join("stdout"), &stdout).unwrap();
+        println!("{} derivations, by refusal {}", stdout.lines().count(), came(&l.answers));
+    }
     println!("{} answers, refusals {}; {} differences", stdout.lines().count(), came(&m.came), found.len());
     !found.is_empty() as i32
 }
@@ -160,9 +173,17 @@ fn compare(words: &[String]) -> i32 {
         guests::limits(&p, &mut c, &mut found);
         guests::large(&p, &mut c, &mut found);
         guests::stored(&p, &mut c, &mut found, &mut d);
-        guests::drawn(&Program { path: None, room: room.clone() }, &mut c, &mut found, &mut d, share(0.1));
+        let library = value(words, "--derive", "target/bin/derive_cases");
+        if Path::new(library).exists() {
+            let mut l = Derivations::new(library);
+            guests::library(&mut l, &mut c, &mut found, &mut d, share(0.15));
+            println!("derivations, by refusal: {} ({:.1} s)", came(&l.answers), began.elapsed().as_secs_f64());
+        } else {
+            println!("derive_cases is not built: no derivation is asked of it");
+            guests::drawn(&Program { path: None, room: room.clone() }, &mut c, &mut found, &mut d, share(0.1));
+        }
         if p.path.is_some() {
-            guests::drawn(&p, &mut c, &mut found, &mut d, share(0.25));
+            guests::drawn(&p, &mut c, &mut found, &mut d, share(0.15));
         }
         println!(
             "lists: {}; guests where no difference is listed: {}; where one is: {} the same, {} not ({}); refused {} ({:.1} s)",

@@ -27,6 +27,7 @@ macro_rules! warn { ($($t:tt)*) => { line!($($t)*) }; }
 macro_rules! error { ($($t:tt)*) => { line!($($t)*) }; }
 
 mod ask;
+mod derivations;
 mod deriving;
 mod differences;
 mod drawing;

@@ -112,3 +112,21 @@ pub fn compare(cases: &mut Cases, found: &mut Vec<Found>, d: &mut Draw) {
     }
     cases.flush("references", found);
 }
+
+// The names of the stored sample: each with the cells property that it could ask for, and one that it could not.
+pub fn sample(cases: &mut Cases, found: &mut Vec<Found>) {
+    for name in KNOWN {
+        for cells in ["#clock-cells", "#gpio-cells", "#iommu-cells"] {
+            ask(cases, name, cells);
+        }
+    }
+    for (i, cells) in CELLS.iter().enumerate() {
+        ask(cases, KNOWN[i], cells);
+    }
+    for name in
+        ["-supply", "supply", "-gpio", "gpio", "-gpios", "cells", "#cells", "clock", "pinctrl-5", "clocksa", "aclocks"]
+    {
+        ask(cases, name, "");
+    }
+    cases.flush("sample", found);
+}
