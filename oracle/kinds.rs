@@ -4,6 +4,7 @@ use crate::derivations::Derivations;
 use crate::differences::Sides;
 use crate::drawing::Draw;
 use crate::guests::Program;
+use crate::readers::Readers;
 use crate::writing::Model;
 use crate::{guests, names, readers, references, writing};
 use std::collections::BTreeMap;
@@ -46,6 +47,13 @@ fn program() -> i32 {
     0
 }
 
+// Writes what was asked, and what is expected, beside a case program.
+fn store(crate_name: &str, stdin: &[u8], stdout: &str) {
+    let folder = Path::new("crates").join(crate_name);
+    std::fs::write(folder.join("stdin"), stdin).unwrap();
+    std::fs::write(folder.join("stdout"), stdout).unwrap();
+}
+
 // The stored sample: some hundreds of questions, with what the Rust answers.
 fn sample(words: &[String]) -> i32 {
     let mut cases = Cases::new(value(words, "--cases", "target/bin/oracle_cases"));
@@ -55,11 +63,10 @@ fn sample(words: &[String]) -> i32 {
     references::sample(&mut cases, &mut found);
     writing::sample(&mut cases, &mut m, &mut found, &mut d);
     let kept = cases.kept.take().unwrap();
-    let folder = Path::new(value(words, "--into", "crates/oracle_cases"));
     let stdin: String = kept.iter().map(|k| k.0.as_str()).collect();
     let stdout: String = kept.iter().filter_map(|k| k.1.as_ref()).map(|a| a.clone() + "\n").collect();
-    std::fs::write(folder.join("stdin"), stdin).unwrap();
-    std::fs::write(folder.join("stdout"), &stdout).unwrap();
+    store("oracle_cases", stdin.as_bytes(), &stdout);
+    println!("{} answers, to calls {}", stdout.lines().count(), came(&m.came));
     cases.end();
     let library = value(words, "--derive", "target/bin/derive_cases");
     if Path::new(library).exists() {
@@ -67,141 +74,196 @@ fn sample(words: &[String]) -> i32 {
         l.kept = Some((Vec::new(), String::new()));
         guests::sample(&mut l, &mut found, &mut d);
         let (stdin, stdout) = l.kept.take().unwrap();
-        let folder = Path::new("crates/derive_cases");
-        std::fs::write(folder.join("stdin"), stdin).unwrap();
-        std::fs::write(folder.join("stdout"), &stdout).unwrap();
+        store("derive_cases", &stdin, &stdout);
         println!("{} derivations, by refusal {}", stdout.lines().count(), came(&l.answers));
     }
-    println!("{} answers, refusals {}; {} differences", stdout.lines().count(), came(&m.came), found.len());
+    println!("{} differences", found.len());
     !found.is_empty() as i32
 }
 
-fn report(found: &[Found]) {
-    for f in found.iter().filter(|f| !f.text.is_empty()) {
-        println!("DIFFERENCE ({}):\n{}", f.kind, f.text);
-    }
+const KINDS: [&str; 7] = ["differences", "names", "reservations", "references", "calls", "reader", "guests"];
+
+// A run of the comparison: both sides, what was drawn, and what was found.
+struct Run<'a> {
+    words: &'a [String],
+    began: Instant,
+    seconds: f64,
+    cases: Cases,
+    told: u64,
+    model: Model,
+    program: Program,
+    draw: Draw,
+    found: Vec<Found>,
 }
 
-fn compare(words: &[String]) -> i32 {
-    let began = Instant::now();
-    let seed: u64 = value(words, "--seed", "1").parse().expect("--seed is a number");
-    let seconds: f64 = value(words, "--seconds", "100").parse().expect("--seconds is a number");
-    let share = |part: f64| Instant::now() + Duration::from_secs_f64(seconds * part);
-    let only = value(words, "--only", "");
-    // A kind is left out once one before it has found a difference.
-    let wanted = |kind: &str| (only.is_empty() || only == kind) && FIRST.get().is_none();
-    let mut found: Vec<Found> = Vec::new();
-    println!("seed {seed}, {seconds} seconds");
-    let mut cases = Cases::new(value(words, "--cases", "target/bin/oracle_cases"));
-    let mut told = 0;
-    let tell = |cases: &Cases, kind: &str, found: &[Found], told: &mut u64| {
-        println!(
-            "{kind}: {}, {} differences ({:.1} s)",
-            cases.asked - *told,
-            found.iter().filter(|f| kind.starts_with(f.kind)).count(),
-            began.elapsed().as_secs_f64()
-        );
-        *told = cases.asked;
-    };
-    let mut d = Draw::new(seed);
-    let mut m = Model::new();
-    let room = std::env::temp_dir().join(format!("oracle-{}", std::process::id()));
-    let p = guests::program(Path::new(value(words, "--guestdt", "target/bin/guestdt")), &room);
-    if p.path.is_none() {
-        println!("guestdt is not built: lists and guests are compared with the rules alone");
+impl Run<'_> {
+    // When this part of the time is over.
+    fn share(&self, part: f64) -> Instant {
+        Instant::now() + Duration::from_secs_f64(self.seconds * part)
     }
-    if wanted("differences") {
+
+    fn passed(&self) -> f64 {
+        self.began.elapsed().as_secs_f64()
+    }
+
+    // Tells how many questions of a kind were asked since the last was told.
+    fn tell(&mut self, kind: &str) {
+        let differences = self.found.iter().filter(|f| kind.starts_with(f.kind)).count();
+        println!("{kind}: {}, {differences} differences ({:.1} s)", self.cases.asked - self.told, self.passed());
+        self.told = self.cases.asked;
+    }
+
+    fn kind(&mut self, kind: &str, shown: bool) {
+        match kind {
+            "differences" => self.differences(shown),
+            "names" => self.names(),
+            "reservations" => self.reservations(),
+            "references" => self.references(),
+            "calls" => self.calls(),
+            "reader" => self.reader(),
+            _ => self.guests(),
+        }
+    }
+
+    fn differences(&mut self, shown: bool) {
         let mut s = Sides {
-            cases: &mut cases,
-            model: &mut m,
-            program: &p,
-            found: &mut found,
-            shown: only == "differences",
+            cases: &mut self.cases,
+            model: &mut self.model,
+            program: &self.program,
+            found: &mut self.found,
+            shown,
             count: 0,
         };
         s.all();
         let count = s.count;
-        println!("listed differences, each on a smallest input: {count}, {} not as listed", found.len());
-        told = cases.asked;
+        println!("listed differences, each on a smallest input: {count}, {} not as listed", self.found.len());
+        self.told = self.cases.asked;
     }
-    if wanted("names") {
-        names::short(&mut cases, &mut found);
-        names::edges(&mut cases, &mut found);
-        names::drawn(&mut cases, &mut found, &mut d, 100000);
-        tell(&cases, "names", &found, &mut told);
+
+    fn names(&mut self) {
+        names::short(&mut self.cases, &mut self.found);
+        names::edges(&mut self.cases, &mut self.found);
+        names::drawn(&mut self.cases, &mut self.found, &mut self.draw, 100000);
+        self.tell("names");
     }
-    if wanted("reservations") {
-        names::reservations(&mut cases, &mut found, &mut d, 20000);
-        writing::starts(&mut cases, &mut m, &mut found);
-        tell(&cases, "reservations", &found, &mut told);
+
+    fn reservations(&mut self) {
+        names::reservations(&mut self.cases, &mut self.found, &mut self.draw, 20000);
+        writing::starts(&mut self.cases, &mut self.model, &mut self.found);
+        self.tell("reservations");
     }
-    if wanted("references") {
-        references::compare(&mut cases, &mut found, &mut d);
-        tell(&cases, "references", &found, &mut told);
+
+    fn references(&mut self) {
+        references::compare(&mut self.cases, &mut self.found, &mut self.draw);
+        self.tell("references");
     }
-    if wanted("calls") {
-        writing::sequences(&mut cases, &mut m, &mut found, 3, &[(120, 24, 2), (76, 4, 1)]);
-        writing::sequences(&mut cases, &mut m, &mut found, 4, &[(200, 24, 2)]);
-        tell(&cases, "calls in short sequences", &found, &mut told);
-        let until = share(0.3);
-        writing::depths(&mut cases, &mut m, &mut found);
+
+    fn calls(&mut self) {
+        let until = self.share(0.3);
+        let (cases, m, found) = (&mut self.cases, &mut self.model, &mut self.found);
+        writing::sequences(cases, m, found, 3, &[(120, 24, 2), (76, 4, 1)]);
+        writing::sequences(cases, m, found, 4, &[(200, 24, 2)]);
+        self.tell("calls in short sequences");
+        let (cases, m, found) = (&mut self.cases, &mut self.model, &mut self.found);
+        writing::depths(cases, m, found);
         while Instant::now() < until && found.is_empty() {
-            writing::drawn(&mut cases, &mut m, &mut found, &mut d, 500);
+            writing::drawn(cases, m, found, &mut self.draw, 500);
         }
-        tell(&cases, "calls in drawn sequences", &found, &mut told);
-        println!("  answers of the Rust to calls, 0 for none refused: {}", came(&m.came));
-        println!("  a phandle given again after a call that failed (difference 2): {}", m.again);
+        self.tell("calls in drawn sequences");
+        println!("  answers of the Rust to calls, 0 for none refused: {}", came(&self.model.came));
+        println!("  a phandle given again after a call that failed (difference 2): {}", self.model.again);
     }
-    cases.end();
-    if wanted("reader") {
-        let mut r = readers::Readers::new(value(words, "--reader", "target/bin/reader_cases"));
-        readers::damaged(&mut r, &mut found);
-        readers::boundaries(&mut r, &mut found);
-        readers::crowded(&mut r, &mut found);
-        let long = readers::structures(&mut r, &mut found, 5, share(0.2));
-        readers::drawn(&mut r, &mut found, &mut d, share(0.1));
-        let all = r.counts.read + r.counts.refused.values().sum::<u64>();
+
+    fn reader(&mut self) {
+        let mut r = Readers::new(value(self.words, "--reader", "target/bin/reader_cases"));
+        let (all, drawn) = (self.share(0.2), self.share(0.3));
+        let found = &mut self.found;
+        readers::damaged(&mut r, found);
+        readers::boundaries(&mut r, found);
+        readers::crowded(&mut r, found);
+        let long = readers::structures(&mut r, found, 5, all);
+        readers::drawn(&mut r, found, &mut self.draw, drawn);
+        let (read, refused) = (r.counts.read, came(&r.counts.refused));
+        let sum = read + r.counts.refused.values().sum::<u64>();
         println!(
-            "reader: {all} (every structure of up to {long} words out of 7), {} read, refused {} ({:.1} s)",
-            r.counts.read,
-            came(&r.counts.refused),
-            began.elapsed().as_secs_f64()
+            "reader: {sum} (every structure of up to {long} words out of 7), {read} read, refused {refused} ({:.1} s)",
+            self.passed()
         );
     }
-    if wanted("guests") {
+
+    fn guests(&mut self) {
         let mut c = guests::Counts::default();
-        guests::limits(&p, &mut c, &mut found);
-        guests::large(&p, &mut c, &mut found);
-        guests::stored(&p, &mut c, &mut found, &mut d);
-        let library = value(words, "--derive", "target/bin/derive_cases");
-        if Path::new(library).exists() {
-            let mut l = Derivations::new(library);
-            guests::library(&mut l, &mut c, &mut found, &mut d, share(0.15));
-            println!("derivations, by refusal: {} ({:.1} s)", came(&l.answers), began.elapsed().as_secs_f64());
-        } else {
+        guests::limits(&self.program, &mut c, &mut self.found);
+        guests::large(&self.program, &mut c, &mut self.found);
+        guests::stored(&self.program, &mut c, &mut self.found, &mut self.draw);
+        self.derivations(&mut c);
+        if self.program.path.is_some() {
+            let until = self.share(0.15);
+            guests::drawn(&self.program, &mut c, &mut self.found, &mut self.draw, until);
+        }
+        println!("lists: {}; guests where no difference is listed: {}", c.lists, c.guests);
+        println!("  where one is: {} the same, {} not ({})", c.listed_same, c.listed_apart, came(&c.by_number));
+        println!("runs of guestdt: {}; refused {} ({:.1} s)", c.runs, came(&c.refused), self.passed());
+    }
+
+    fn derivations(&mut self, c: &mut guests::Counts) {
+        let until = self.share(0.15);
+        let library = value(self.words, "--derive", "target/bin/derive_cases");
+        if !Path::new(library).exists() {
             println!("derive_cases is not built: no derivation is asked of it");
-            guests::drawn(&Program { path: None, room: room.clone() }, &mut c, &mut found, &mut d, share(0.1));
+            let none = Program { path: None, room: self.program.room.clone() };
+            return guests::drawn(&none, c, &mut self.found, &mut self.draw, until);
         }
-        if p.path.is_some() {
-            guests::drawn(&p, &mut c, &mut found, &mut d, share(0.15));
+        let mut l = Derivations::new(library);
+        guests::library(&mut l, c, &mut self.found, &mut self.draw, until);
+        println!("derivations, by refusal: {} ({:.1} s)", came(&l.answers), self.passed());
+    }
+
+    fn report(&self) -> i32 {
+        for f in self.found.iter().filter(|f| !f.text.is_empty()) {
+            println!("DIFFERENCE ({}):\n{}", f.kind, f.text);
         }
-        println!(
-            "lists: {}; guests where no difference is listed: {}; where one is: {} the same, {} not ({}); refused {} ({:.1} s)",
-            c.lists,
-            c.guests,
-            c.listed_same,
-            c.listed_apart,
-            came(&c.by_number),
-            came(&c.refused),
-            began.elapsed().as_secs_f64()
-        );
-        println!("runs of guestdt: {}", c.runs);
+        if let Some(first) = FIRST.get() {
+            println!("the first after {:.1} s", first.duration_since(self.began).as_secs_f64());
+        }
+        println!("{} unlisted differences, {:.0} s", self.found.len(), self.passed());
+        !self.found.is_empty() as i32
+    }
+}
+
+fn compare(words: &[String]) -> i32 {
+    let seed: u64 = value(words, "--seed", "1").parse().expect("--seed is a number");
+    let seconds: f64 = value(words, "--seconds", "100").parse().expect("--seconds is a number");
+    let only = value(words, "--only", "");
+    if !only.is_empty() && !KINDS.contains(&only) {
+        println!("oracle: there is no kind {only}; the kinds are {}", KINDS.join(", "));
+        return 2;
+    }
+    println!("seed {seed}, {seconds} seconds");
+    let room = std::env::temp_dir().join(format!("oracle-{}", std::process::id()));
+    let program = guests::program(Path::new(value(words, "--guestdt", "target/bin/guestdt")), &room);
+    if program.path.is_none() {
+        println!("guestdt is not built: no guest is asked of it");
+    }
+    let mut run = Run {
+        words,
+        began: Instant::now(),
+        seconds,
+        cases: Cases::new(value(words, "--cases", "target/bin/oracle_cases")),
+        told: 0,
+        model: Model::new(),
+        program,
+        draw: Draw::new(seed),
+        found: Vec::new(),
+    };
+    for kind in KINDS {
+        // A kind is left out once one before it has found a difference.
+        if (only.is_empty() || only == kind) && run.found.is_empty() {
+            run.kind(kind, only == kind);
+        }
     }
     let _ = std::fs::remove_dir_all(&room);
-    report(&found);
-    if let Some(first) = FIRST.get() {
-        println!("the first after {:.1} s", first.duration_since(began).as_secs_f64());
-    }
-    println!("{} unlisted differences, {:.0} s", found.len(), began.elapsed().as_secs_f64());
-    !found.is_empty() as i32
+    let status = run.report();
+    run.cases.end();
+    status
 }
