@@ -181,7 +181,7 @@ impl Run<'_> {
         readers::damaged(&mut r, found);
         readers::boundaries(&mut r, found);
         readers::crowded(&mut r, found);
-        let long = readers::structures(&mut r, found, 5, all);
+        let long = readers::structures(&mut r, found, 6, all);
         readers::drawn(&mut r, found, &mut self.draw, drawn);
         let (read, refused) = (r.counts.read, came(&r.counts.refused));
         let sum = read + r.counts.refused.values().sum::<u64>();
