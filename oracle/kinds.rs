@@ -202,7 +202,13 @@ impl Run<'_> {
             guests::drawn(&self.program, &mut c, &mut self.found, &mut self.draw, until);
         }
         println!("lists: {}; guests where no difference is listed: {}", c.lists, c.guests);
-        println!("  where one is: {} the same, {} not ({})", c.listed_same, c.listed_apart, came(&c.by_number));
+        println!(
+            "  where one is: {} the same, {} not, as listed ({}); the Rust panics in {}",
+            c.listed_same,
+            c.listed_apart,
+            came(&c.by_number),
+            c.panics
+        );
         println!("runs of guestdt: {}; refused {} ({:.1} s)", c.runs, came(&c.refused), self.passed());
     }
 
