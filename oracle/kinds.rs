@@ -181,7 +181,7 @@ impl Run<'_> {
         readers::damaged(&mut r, found);
         readers::boundaries(&mut r, found);
         readers::crowded(&mut r, found);
-        let long = readers::structures(&mut r, found, 5, all);
+        let long = readers::structures(&mut r, found, 6, all);
         readers::drawn(&mut r, found, &mut self.draw, drawn);
         let (read, refused) = (r.counts.read, came(&r.counts.refused));
         let sum = read + r.counts.refused.values().sum::<u64>();
@@ -202,7 +202,13 @@ impl Run<'_> {
             guests::drawn(&self.program, &mut c, &mut self.found, &mut self.draw, until);
         }
         println!("lists: {}; guests where no difference is listed: {}", c.lists, c.guests);
-        println!("  where one is: {} the same, {} not ({})", c.listed_same, c.listed_apart, came(&c.by_number));
+        println!(
+            "  where one is: {} the same, {} not, as listed ({}); the Rust panics in {}",
+            c.listed_same,
+            c.listed_apart,
+            came(&c.by_number),
+            c.panics
+        );
         println!("runs of guestdt: {}; refused {} ({:.1} s)", c.runs, came(&c.refused), self.passed());
     }
 

@@ -125,38 +125,23 @@ fn wrap(structure: &[u32], strings: &[u8]) -> Vec<u8> {
     out
 }
 
-// Every structure of up to `long` words out of few: the tokens, a name, an offset.
+const LETTERS: [u32; 7] = [1, 2, 3, 4, 9, 0, 0x61000000];
+
+// Every structure of up to `long` words out of few: the tokens, a name, an offset; and the same words inside a root. Answers how
+// long they were when the time was over.
 pub fn structures(r: &mut Readers, found: &mut Vec<Found>, long: u32, until: Instant) -> u32 {
-    let letters = [1, 2, 3, 4, 9, 0, 0x61000000];
     for n in 0..=long {
-        for code in 0..letters.len().pow(n) {
-            let mut rest = code;
-            let mut s = Vec::new();
-            for _ in 0..n {
-                s.push(letters[rest % letters.len()]);
-                rest /= letters.len();
-            }
+        for code in 0..LETTERS.len().pow(n) {
+            let s: Vec<u32> = (0..n).map(|k| LETTERS[code / LETTERS.len().pow(k) % LETTERS.len()]).collect();
             r.ask(wrap(&s, STRINGS), WORDS, found);
+            r.ask(wrap(&[&[1, 0], &s[..], &[2, 9]].concat(), STRINGS), WORDS, found);
+            if code % 1000 == 999 && Instant::now() > until {
+                r.flush(found);
+                return n - 1;
+            }
         }
         r.flush(found);
-        if Instant::now() > until {
-            return n;
-        }
     }
-    // The same inside a root, with what closes it.
-    for n in 0..long {
-        for code in 0..letters.len().pow(n) {
-            let mut rest = code;
-            let mut s = vec![1, 0];
-            for _ in 0..n {
-                s.push(letters[rest % letters.len()]);
-                rest /= letters.len();
-            }
-            s.extend([2, 9]);
-            r.ask(wrap(&s, STRINGS), WORDS, found);
-        }
-    }
-    r.flush(found);
     long
 }
 
