@@ -68,13 +68,13 @@ fn sample(words: &[String]) -> i32 {
     store("oracle_cases", stdin.as_bytes(), &stdout);
     println!("{} answers, to calls {}", stdout.lines().count(), came(&m.came));
     cases.end();
-    let library = value(words, "--derive", "target/bin/derive_cases");
+    let library = value(words, "--derive", "target/bin/beside_cases");
     if Path::new(library).exists() {
         let mut l = Derivations::new(library);
         l.kept = Some((Vec::new(), String::new()));
         guests::sample(&mut l, &mut found, &mut d);
         let (stdin, stdout) = l.kept.take().unwrap();
-        store("derive_cases", &stdin, &stdout);
+        store("beside_cases", &stdin, &stdout);
         println!("{} derivations, by refusal {}", stdout.lines().count(), came(&l.answers));
     }
     println!("{} differences", found.len());
@@ -214,9 +214,9 @@ impl Run<'_> {
 
     fn derivations(&mut self, c: &mut guests::Counts) {
         let until = self.share(0.15);
-        let library = value(self.words, "--derive", "target/bin/derive_cases");
+        let library = value(self.words, "--derive", "target/bin/beside_cases");
         if !Path::new(library).exists() {
-            println!("derive_cases is not built: no derivation is asked of it");
+            println!("beside_cases is not built: no derivation is asked of it");
             let none = Program { path: None, room: self.program.room.clone() };
             return guests::drawn(&none, c, &mut self.found, &mut self.draw, until);
         }

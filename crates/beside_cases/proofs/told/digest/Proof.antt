@@ -3,8 +3,8 @@ use mathlib.Core.Path.{_≡_}
 use Prim.Native.Nat.{_-_, _≤_}
 use lib.ListN.{length}
 use borrow.Author.Needs.{needs}
-use Rattle.derive_cases.proofs.told.digest.Statement.{statement}
-use Rattle.derive_cases.proofs.told.digest.Tie as tie
+use Rattle.beside_cases.proofs.told.digest.Statement.{statement}
+use Rattle.beside_cases.proofs.told.digest.Tie as tie
 
 abbrev Inv-loop : tie.InvT-loop
 Inv-loop s h₀ i₀ h i = i ≤ length s

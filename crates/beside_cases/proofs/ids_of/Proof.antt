@@ -1,8 +1,8 @@
 -- `ids_of` is safe and ends.
 use Prim.Native.Nat.{_-_, _≤_}
 use borrow.Author.Needs.{needs}
-use Rattle.derive_cases.proofs.ids_of.Statement.{statement}
-use Rattle.derive_cases.proofs.ids_of.Tie as tie
+use Rattle.beside_cases.proofs.ids_of.Statement.{statement}
+use Rattle.beside_cases.proofs.ids_of.Tie as tie
 
 abbrev Inv-loop : tie.InvT-loop
 Inv-loop raw ids₀ i₀ ids i = i ≤ 80

@@ -1,7 +1,7 @@
 -- `main` ends: the turns are counted down.
 use borrow.Author.Needs.{needs}
-use Rattle.derive_cases.proofs.main.Statement.{statement}
-use Rattle.derive_cases.proofs.main.Tie as tie
+use Rattle.beside_cases.proofs.main.Statement.{statement}
+use Rattle.beside_cases.proofs.main.Tie as tie
 
 abbrev Inv-loop : tie.InvT-loop
 Inv-loop host₀ configured₀ excluded₀ work₀ list₀ guest₀ turns₀ host configured excluded work list guest turns = Unit {0}
