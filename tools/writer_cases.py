@@ -110,6 +110,7 @@ sc("root_a_short",89,1,2,("new",),("begin",b""),("prop",b"a",b"7"),("forge",{"st
 sc("root_a_strings",89,2,2,("new",),("begin",b""),("prop",b"a",b"7"),("end",1),("finish",))
 sc("nodes",256,16,2,("new",),("end",0),("begin",b"a\0b"),("begin",b"a@"),("begin",b"@1"),("begin",b"a@b@c"),("begin",A31),("begin",A31+b"x"),("begin",b"n/o"),("begin",b"caf\xc3\xa9"),("end",1),("end",2),("finish",),("end",2),("end",1))
 sc("depth",128,16,2,("new",),("forge",{"node_depth":63}),("begin",b""),("begin",b""),("begin",b"a\0"),("forge",{"node_depth":65}),("begin",b""),("end",65),("forge",{"node_depth":64}),("end",64))
+sc("nested",828,8,2,("new",),("begin",b""),*[("begin",b"n")]*63,("begin",b"n"),("begin",b"a/b"),("end",65),*[("end",64-i) for i in range(64)],("finish",))
 sc("properties",512,48,2,("new",),("prop",b"a",b""),("begin",b""),("prop",b"a\0b",b""),("prop",b"",b"x"),("prop",A31,b"four"),("prop",A31+b"x",b"x"),("prop",b"a/b",b"x"),("prop",b"#a?",b"five5"),("prop",b"#a?",b""),("end",1),("prop",b"a/b",b"x"),("prop",b"a",b"x"))
 sc("values",512,64,2,("new",),("begin",b""),("null",b"none"),("string",b"s",b"text"),("string",b"s",b""),("string",b"s",b"a\0b"),("list",b"l",b"one\0two\0"),("list",b"l",b"one\0two"),("list",b"l",b""),("u32",b"w",0xfffefdfc),("u64",b"v",0x0102030405060708),("cells",b"c",[1,2,0xffffffff]),("longs",b"d",[2**64-1,5,0]),("cells",b"c",[]),("longs",b"d",[]),("end",1),("finish",))
 sc("bad_values_first",128,8,2,("new",),("string",b"a/b",b"x\0"),("list",b"",b"x"),("string",b"a/b",b"x"),("begin",b""),("end",1),("string",b"a",b"x\0"),("string",b"a",b"x"))
@@ -119,7 +120,7 @@ sc("phandle_again",92,8,4,("new",),("begin",b""),("phandle",5),("phandle",6),("p
 sc("forged",128,8,2,("new",),("forge",{"data_len":52}),("begin",b""),("forge",{"data_len":58}),("begin",b""),("forge",{"data_len":64,"off_dt_struct":52}),("begin",b""),("forge",{"off_dt_struct":68}),("begin",b""),("forge",{"off_dt_struct":56,"data_len":132}),("begin",b""),("forge",{"data_len":BIG-4}),("end",1),("finish",),("forge",{"data_len":64,"strings_len":9}),("begin",b"k"),("prop",b"a",b"x"),("finish",))
 sc("forged_on",128,8,2,("new",),("begin",b"k"),("forge",{"strings_len":CEIL+1}),("begin",b"l"),("forge",{"strings_len":BIG-1}),("prop",b"a",b""),("forge",{"strings_len":8}),("prop",b"a",b"x"),("phandle",1),("forge",{"node_depth":0}),("finish",))
 sc("strings_full",128,4,2,("new",),("begin",b""),("prop",b"a",b""),("prop",b"b",b""),("prop",b"c",b""),("prop",b"b",b""),("prop",b"cd",b""))
-sc("past_ceiling",CEIL+8,8,2,("new",),("forge",{"data_len":CEIL-4,"node_depth":2}),("end",2),("end",1),("forge",{"data_len":CEIL+4}),("end",1))
+sc("past_ceiling",CEIL+8,8,2,("new",),("forge",{"data_len":CEIL-4,"node_depth":2}),("end",2),("end",1),("forge",{"data_len":CEIL+4}),("end",1),("forge",{"data_len":CEIL,"node_depth":0}),("finish",),("forge",{"data_len":CEIL-4}),("finish",))
 R2=[(0,4096),(4096,1)]
 sc("reserved",92,8,2,("start",R2),("finish",))
 sc("reserved_short",87,8,2,("start",R2),)
@@ -136,12 +137,11 @@ def run():
     """The script, what is told of it, and each blob that it finishes."""
     script, out, blobs = [], [], []
     F=["data_len","off_dt_struct","strings_len","phandles_len","node_depth"]
-    SCX=[x for x in SC if x[0]!="past_ceiling"]
     def line(l,n,m):
         w=m.w
         out.append(l+b"".join(b" %d"%x for x in(n,0,w.data_len,w.strings_len,w.phandles_len,w.node_depth,int(w.node_ended),int(w.finished),w.boot_cpuid_phys,dig(m.data),dig(m.strings),dig(m.table))))
     MADE=[(0,4096),(0,0),(2**64-1,1),(2**64-2,1),(1,2**64-1),(0,2**64-1)]
-    for name,d,s,t,steps in SCX:
+    for name,d,s,t,steps in SC:
         if script: script.append(b"")
         head=b"%s %x %x %x"%(name.encode(),d,s,t); script.append(head); out.append(head)
         m=M(d,s,t)

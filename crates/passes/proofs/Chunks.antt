@@ -15,7 +15,7 @@ use Rattle.rules.specs.Events.{Property, stringAt}
 use Rattle.rules.specs.Outcome.{refuses, passes}
 use Rattle.rules.specs.Tree.{named, doubledProps}
 use Rattle.rules.specs.Laws.Tests.{by-test, by-le, never, both-ways, not-passed, or-cases, or-left, or-right}
-use Rattle.rules.specs.Laws.Octets.{same-eq, eq-same, not-same}
+use Rattle.rules.specs.Laws.Octets.{same-eq, eq-same}
 use Rattle.rules.specs.Laws.Order.{before-irrefl, before-trans, before-total}
 use Rattle.passes.specs.Sorted.{chunkStart, chunkRoom, keyAt, keyBelow, Ordered, Between, Fresh, Finds, Inserted, Framed, Wiped}
 use Rattle.passes.specs.Passes.{propsAt}
@@ -179,21 +179,17 @@ moved-done w n at offset i u e l h m =
 
 -- ---- words that become zero
 
-pub record Wiping (w : List ℕ) (i : ℕ) (u : List ℕ) : Type 0 where
-  pub zeros : (j : ℕ) → j < i → getD u (chunkStart + j) 0 ≡ 0
-  pub others : (j : ℕ) → (j < chunkStart) ⊎ (chunkStart + i ≤ j) → getD u j 0 ≡ getD w j 0
+pub wiped-none : (w : List ℕ) → Wiped w 0 w
+wiped-none w = record { zeros = λ j h. absurd (omega arith); outside = λ j h. refl }
 
-pub wiping-start : (w : List ℕ) → Wiping w 0 w
-wiping-start w = record { zeros = λ j h. absurd (omega arith); others = λ j h. refl }
-
-pub wiping-more : (w : List ℕ) (i : ℕ) (u : List ℕ) → i < chunkRoom → chunkStart + i < length u → Wiping w i u → Wiping w (i + 1) (set u (chunkStart + i) 0)
-wiping-more w i u l h m =
+pub wiped-more : (w : List ℕ) (i : ℕ) (u : List ℕ) → chunkStart + i < length u → Wiped w i u → Wiped w (i + 1) (set u (chunkStart + i) 0)
+wiped-more w i u h m =
     record {
       zeros = λ j p. by-test (eqb j i)
           (λ t. ap (λ (k : ℕ). getD (set u (chunkStart + i) 0) (chunkStart + k) 0) (eqb-true j i t) ∙ getD-set-same u (chunkStart + i) 0 0 h)
           (λ t. let ne = eqb-false j i t in
           getD-set-other u (chunkStart + i) (chunkStart + j) 0 0 (λ e. omega arith) ∙ m .zeros j (omega arith));
-      others = λ j p. getD-set-other u (chunkStart + i) j 0 0 (λ q. apart j p q) ∙ m .others j (wider j p);
+      outside = λ j p. getD-set-other u (chunkStart + i) j 0 0 (λ q. apart j p q) ∙ m .outside j (wider j p);
     }
   where
     apart : (j : ℕ) → (j < chunkStart) ⊎ (chunkStart + (i + 1) ≤ j) → j ≡ chunkStart + i → ⊥
@@ -203,13 +199,6 @@ wiping-more w i u l h m =
     wider : (j : ℕ) → (j < chunkStart) ⊎ (chunkStart + (i + 1) ≤ j) → (j < chunkStart) ⊎ (chunkStart + i ≤ j)
     wider j (inl p) = inl p
     wider j (inr p) = inr (omega arith)
-
-pub wiping-done : (w : List ℕ) (i : ℕ) (u : List ℕ) → i ≡ chunkRoom → Wiping w i u → Wiped w u
-wiping-done w i u e m = record { zeros = λ j h. m .zeros j (omega arith); outside = λ j h. m .others j (exactly j h) }
-  where
-    exactly : (j : ℕ) → (j < chunkStart) ⊎ (chunkStart + chunkRoom ≤ j) → (j < chunkStart) ⊎ (chunkStart + i ≤ j)
-    exactly j (inl p) = inl p
-    exactly j (inr p) = inr (omega arith)
 
 -- ---- a chunk that grows
 
@@ -339,19 +328,23 @@ module _ (s strings : Bytes) (from left n here : ℕ) (w : List ℕ) (f : Filled
           judged = λ p. f .judged p ∙ ap (doubledProps (f .seen p)) (more p) ∙ props-go (f .seen p) (q p) _ (f .chunk p .holds (stringAt strings name) ∙ g .missing);
         }
 
--- a word more leaves what is outside the chunk as it was
-pub framed-more : (w v u : List ℕ) (n at offset : ℕ) → n < chunkRoom → Framed w v → Inserted v n at offset u → Framed w u
-framed-more w v u n at offset h f e = record { outside = λ i k. e .outside i (beyond i k) ∙ f .outside i k }
+-- a word more leaves what is outside the first m as it was
+pub framed-more : (w v u : List ℕ) (m n at offset : ℕ) → n < m → Framed w m v → Inserted v n at offset u → Framed w m u
+framed-more w v u m n at offset h f e = record { outside = λ i k. e .outside i (beyond i k) ∙ f .outside i k }
   where
-    beyond : (i : ℕ) → (i < chunkStart) ⊎ (chunkStart + chunkRoom ≤ i) → (i < chunkStart) ⊎ (chunkStart + n < i)
+    beyond : (i : ℕ) → (i < chunkStart) ⊎ (chunkStart + m ≤ i) → (i < chunkStart) ⊎ (chunkStart + n < i)
     beyond i (inl k) = inl k
     beyond i (inr k) = inr (omega arith)
 
-pub framed-same : (w : List ℕ) → Framed w w
-framed-same w = record { outside = λ i k. refl }
+pub framed-same : (w : List ℕ) (n : ℕ) → Framed w n w
+framed-same w n = record { outside = λ i k. refl }
 
-pub framed-then : (w v u : List ℕ) → Framed w v → Framed v u → Framed w u
-framed-then w v u f g = record { outside = λ i k. g .outside i k ∙ f .outside i k }
+pub framed-then : (w v u : List ℕ) (m n : ℕ) → m ≤ n → Framed w n v → Framed v m u → Framed w n u
+framed-then w v u m n h f g = record { outside = λ i k. g .outside i (beyond i k) ∙ f .outside i k }
+  where
+    beyond : (i : ℕ) → (i < chunkStart) ⊎ (chunkStart + n ≤ i) → (i < chunkStart) ⊎ (chunkStart + m ≤ i)
+    beyond i (inl k) = inl k
+    beyond i (inr k) = inr (omega arith)
 
 -- ---- what the functions answer
 
@@ -386,11 +379,11 @@ module _ (s strings : Bytes) (from left : ℕ) (w : List ℕ) (r : builts.Built)
   builds-full next e = subst (Builds s strings from left w) e b
 
 -- zeros that were used and wiped are as before
-pub wiped-back : (w v u : List ℕ) → Clear w → length u ≡ length w → Framed w v → Wiped v u → u ≡ w
-wiped-back w v u c l f e = ext-getD 0 u w l (λ i h. by-le chunkStart i
-    (λ p. by-le (chunkStart + chunkRoom) i
+pub wiped-back : (w v u : List ℕ) (n : ℕ) → n ≤ chunkRoom → Clear w → length u ≡ length w → Framed w n v → Wiped v n u → u ≡ w
+wiped-back w v u n m c l f e = ext-getD 0 u w l (λ i h. by-le chunkStart i
+    (λ p. by-le (chunkStart + n) i
     (λ q. e .outside i (inr q) ∙ f .outside i (inr q))
     (λ q. let k : ℕ = i - chunkStart in
-    let m : i ≡ chunkStart + k = omega arith in
-    ap (λ (j : ℕ). getD u j 0) m ∙ e .zeros k (omega arith) ∙ sym (ap (λ (j : ℕ). getD w j 0) m ∙ c .zeros k (omega arith))))
+    let x : i ≡ chunkStart + k = omega arith in
+    ap (λ (j : ℕ). getD u j 0) x ∙ e .zeros k (omega arith) ∙ sym (ap (λ (j : ℕ). getD w j 0) x ∙ c .zeros k (omega arith))))
     (λ p. e .outside i (inl p) ∙ f .outside i (inl p)))

@@ -7,23 +7,22 @@ use native.Mathlib.Omega.{arith}
 use native.Mathlib.Numerals.{add-one}
 use lib.ListN.{length, take, drop, length-drop}
 use lib.Seq.{take-all, take-nil}
-use lib.Dec.{eqb, leb}
 use types.Run.{OneOf}
-use borrow.Author.Tests.{leb-true}
 use denote.Enum.Declared.{tagOf}
 use Rattle.rules.proofs.Token as tokened
-use Rattle.rules.specs.Octets.{Bytes, same, part, wordAt, nulIn, padded}
+use Rattle.rules.specs.Octets.{Bytes, same, part, wordAt}
 use Rattle.rules.specs.Outcome.{Verdict, gives, refuses, passes, _then_}
-use Rattle.rules.specs.Tokens.{beginAt, propAt, tagged, tokenAt}
+use Rattle.rules.specs.Tokens.{tokenAt}
 use Rattle.rules.specs.Events.{Property, stringAt, saying}
 use Rattle.rules.specs.Tree.{propsOf, named, doubledProps}
 use Rattle.rules.specs.declared.Token.{Token}
-use Rattle.rules.specs.declared.Token.the-variants.{Item, End, Cut}
+use Rattle.rules.specs.declared.Token.the-variants.{Item}
 use Rattle.rules.specs.declared.Kind.{Kind}
 use Rattle.rules.specs.declared.Kind.the-variants.{Begin, EndNode, Prop, Nop}
-use Rattle.rules.specs.Laws.Tests.{by-test, never, or-nothing, or-left, or-right}
-use Rattle.rules.specs.Laws.Tokens.{if-by}
-use Rattle.passes.specs.Passes.{blockOf, eventsAt, propsAt}
+use Rattle.rules.specs.Laws.Tests.{by-test, or-nothing, or-right, or-assoc}
+use Rattle.rules.specs.Laws.Tokens.{prop-says}
+use Rattle.rules.specs.Laws.Events.{eventsAt}
+use Rattle.passes.specs.Passes.{blockOf, propsAt}
 use Rattle.passes.specs.Props.{Next, Stands, firstHit, upToHit, Met, Unmet, MeetsBy}
 use Rattle.passes.specs.declared.props.Property as read
 use Rattle.passes.specs.declared.props.Property.the-variants.{Here, Missing}
@@ -33,43 +32,12 @@ use Rattle.passes.proofs.Turns.{events-item, events-stop}
 
 -- ---- where a property's name offset stands
 
-abbrev Offset : Bytes → ℕ → Token → Type 0
-Offset s at (Item (Begin len) next) = Unit {0}
-Offset s at (Item EndNode next) = Unit {0}
-Offset s at (Item (Prop len name value) next) = (name ≡ wordAt s (at + 8)) × (at + 12 ≤ length s)
-Offset s at (Item Nop next) = Unit {0}
-Offset s at End = Unit {0}
-Offset s at Cut = Unit {0}
-
-offset-begin : (s : Bytes) (at b : ℕ) → Offset s at (beginAt s b)
-unfolding beginAt
-offset-begin s at b = if-by (Offset s at) (leb (b + padded (nulIn (drop b s) + 1)) (length s)) (λ _. tt) (λ _. tt)
-
-offset-prop : (s : Bytes) (at : ℕ) → Offset s at (propAt s (at + 4))
-unfolding propAt
-offset-prop s at =
-    let e : at + 4 + 4 ≡ at + 8 = omega arith in
-    if-by (Offset s at) (leb (at + 4 + 8) (length s))
-    (λ h. let l : at + 12 ≤ length s = omega (arith, leb-true (at + 4 + 8) (length s) h) in
-    if-by (Offset s at) (leb (at + 4 + 8 + padded (wordAt s (at + 4))) (length s)) (λ _. (ap (wordAt s) e, l)) (λ _. tt))
-    (λ _. tt)
-
-offset-tagged : (s : Bytes) (at tag : ℕ) → Offset s at (tagged tag s (at + 4))
-unfolding tagged
-offset-tagged s at tag =
-    if-by (Offset s at) (eqb tag 1) (λ _. offset-begin s at (at + 4))
-    (λ _. if-by (Offset s at) (eqb tag 2) (λ _. tt)
-    (λ _. if-by (Offset s at) (eqb tag 3) (λ _. offset-prop s at)
-    (λ _. if-by (Offset s at) (eqb tag 4) (λ _. tt)
-    (λ _. if-by (Offset s at) (eqb tag 9) (λ _. tt) (λ _. tt)))))
-
-offset-token : (s : Bytes) (at : ℕ) → Offset s at (tokenAt s at)
-unfolding tokenAt
-offset-token s at = if-by (Offset s at) (leb (at + 4) (length s)) (λ _. offset-tagged s at (wordAt s at)) (λ _. tt)
-
 pub name-offset : (s : Bytes) (at : ℕ) (r : Token) (kind : Kind) (next len name value : ℕ) → r ≡ tokenAt s at → r ≡ Item kind next → kind ≡ Prop len name value
     → (name ≡ wordAt s (at + 8)) × (at + 12 ≤ length s)
-name-offset s at r kind next len name value e f g = subst (Offset s at) (sym e ∙ f ∙ ap (λ (k : Kind). Item k next) g) (offset-token s at)
+name-offset s at r kind next len name value e f g =
+    let p = prop-says s at len name value next (sym e ∙ f ∙ ap (λ (k : Kind). Item k next) g) in
+    let eight : at + 4 + 4 ≡ at + 8 = omega arith in
+    (p .offset ∙ ap (wordAt s) eight, omega (arith, p .ends, p .inside))
 
 -- ---- the next property
 
@@ -215,10 +183,6 @@ named-append : (x : Bytes) (ys xs : List Property) → named x (ys ++ xs) ≡ na
 unfolding named
 named-append x [] xs = refl
 named-append x (y ∷ ys) xs = ap (λ (b : Bool). same x (y .name) || b) (named-append x ys xs) ∙ sym (or-assoc (same x (y .name)) (named x ys) (named x xs))
-  where
-    or-assoc : (a b c : Bool) → ((a || b) || c) ≡ (a || (b || c))
-    or-assoc true b c = refl
-    or-assoc false b c = refl
 
 module _ (seen : List Property) (p : Property) (ps : List Property) where
   pub props-fault : named (p .name) seen ≡ true → doubledProps seen (p ∷ ps) ≡ refuses 10 (p .place)

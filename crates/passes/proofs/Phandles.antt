@@ -1,14 +1,13 @@
 -- Refusal 12 as a walk over events.
 use mathlib.Core.Path.{_≡_, refl, sym, ap, _∙_, subst}
-use mathlib.Core.Bool.{Bool, true, false, not, _&&_, _||_}
+use mathlib.Core.Bool.{Bool, true, false, _||_}
 use mathlib.Core.List.{List, [], _∷_}
-use mathlib.Core.Option.{Option, none, some}
 use Prim.Native.Nat.{ℕ, zero, suc, _+_, _≤_, _<_}
 use native.Mathlib.Omega.{arith}
 use native.Mathlib.Numerals.{add-one}
 use lib.Dec.{eqb}
 use lib.ListN.{length}
-use types.Run.{OneOf, miss}
+use types.Run.{OneOf}
 use denote.Enum.Declared.{tagOf}
 use borrow.Author.Tests.{eqb-true, eqb-false}
 use Rattle.rules.specs.Octets.{Bytes, wordAt, part}
@@ -26,8 +25,10 @@ use Rattle.rules.specs.Laws.Tests.{by-test}
 use Rattle.passes.specs.declared.shared.Row.{Row}
 use Rattle.passes.specs.declared.shared.Row.the-variants.{Go, Fault}
 use Rattle.passes.specs.Rows.{rowHas, rowBelow, rowGiven, rowsFrom, passed, rowGive, rowProp, rowTurn}
-use Rattle.passes.specs.Passes.{blockOf, nodesIn, eventsAt}
+use Rattle.rules.specs.Laws.Events.{eventsAt}
+use Rattle.passes.specs.Passes.{blockOf, nodesIn}
 use Rattle.passes.proofs.Turns.{events-all, events-item, events-stop}
+use Rattle.rules.specs.Laws.Passes.{phandle-here, phandle-past}
 
 -- ---- a search that counts up
 
@@ -93,25 +94,17 @@ module _ (p : Property) (ps : List Property) (i : ℕ) (w : List ℕ) (ns : List
   abbrev with : List Property → List Node
   with qs = left true qs ns
 
-  prop-other : isPhandle (p .name) ≡ false → phandleProp (p ∷ ps) ≡ phandleProp ps
-  unfolding phandleProp
-  prop-other c = rw (phandleProp, c)
-
-  prop-here : isPhandle (p .name) ≡ true → phandleProp (p ∷ ps) ≡ some p
-  unfolding phandleProp
-  prop-here c = rw (phandleProp, c)
-
   from-other : isPhandle (p .name) ≡ false → rowsFrom w i (with (p ∷ ps)) ≡ rowsFrom w i (with ps)
   unfolding rowsFrom
-  from-other c = rw (rowsFrom, prop-other c)
+  from-other c = rw (rowsFrom, phandle-past p ps c)
 
   from-fault : isPhandle (p .name) ≡ true → rowBelow w i u ≡ true → rowsFrom w i (with (p ∷ ps)) ≡ (refuses 12 (p .place), w)
   unfolding rowsFrom
-  from-fault c b = rw (rowsFrom, prop-here c, b)
+  from-fault c b = rw (rowsFrom, phandle-here p ps c, b)
 
   from-gives : isPhandle (p .name) ≡ true → rowBelow w i u ≡ false → rowsFrom w i (with (p ∷ ps)) ≡ rowsFrom (rowGiven w i u) (suc i) ns
   unfolding rowsFrom
-  from-gives c b = rw (rowsFrom, prop-here c, b)
+  from-gives c b = rw (rowsFrom, phandle-here p ps c, b)
 
 pub rows-nodes : (wants : Bool) (i : ℕ) (w : List ℕ) (stack : List ℕ) (next : ℕ) (es : List Event)
     → rowsRest wants i w es ≡ rowsFrom w i (left wants (propsOf es) (nodesFrom stack next es))
@@ -175,14 +168,6 @@ module _ (b : Block) (wants : Bool) (i : ℕ) (w : List ℕ) (at : ℕ) (h : at 
     rows-go j o k = sym (rows-step ∙ ap go k)
 
 -- ---- the arms of a turn
-
-pub un-not : (b : Bool) → not b ≡ true → b ≡ false
-un-not true e = sym e
-un-not false e = refl
-
-pub un-not-false : (b : Bool) → not b ≡ false → b ≡ true
-un-not-false true e = refl
-un-not-false false e = sym e
 
 module _ (s strings : Bytes) (kind : Kind) (wants : Bool) (i : ℕ) (w : List ℕ) where
   abbrev turn : Row × List ℕ

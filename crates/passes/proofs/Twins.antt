@@ -10,23 +10,24 @@ use lib.ListN.{length, getD, take, drop, take-append-drop, List·getD-eq-default
 use lib.Seq.{take-at, getD-drop, getD-take, length-take-le}
 use types.Run.{OneOf}
 use denote.Enum.Declared.{tagOf}
-use borrow.Author.Tests.{eqb-true, eqb-false, eq-eqb, ne-eqb, lt-ltb, le-leb}
+use borrow.Author.Tests.{eqb-true, eqb-false, eq-eqb, ne-eqb, lt-ltb, le-leb, lt-leb}
 use Rattle.rules.proofs.Token as tokened
 use Rattle.rules.specs.Ceilings.{nodeWords, nodeCeiling, workWords}
-use Rattle.rules.specs.Octets.{Bytes, byteAt, wordAt, padded, nulIn, same, begins}
-use Rattle.rules.specs.Outcome.{Verdict, gives, refuses, passes, _then_, Test, first}
+use Rattle.rules.specs.Octets.{Bytes, byteAt, nulIn, same, begins}
+use Rattle.rules.specs.Outcome.{Verdict, gives, refuses, passes, _then_, first}
 use Rattle.rules.specs.Blob.{Block}
-use Rattle.rules.specs.Tokens.{beginAt, propAt, tagged, tokenAt}
+use Rattle.rules.specs.Tokens.{tokenAt}
 use Rattle.rules.specs.Events.{Event, saying, nodeNameAt}
 use Rattle.rules.specs.Tree.{Node, Tree, node, propsOf, top, rest, nodesFrom, nodesOf, sibling, doubledProps, doubledFrom, doubledJudged}
 use Rattle.rules.specs.declared.Token.{Token}
-use Rattle.rules.specs.declared.Token.the-variants.{Item, End, Cut}
+use Rattle.rules.specs.declared.Token.the-variants.{Item}
 use Rattle.rules.specs.declared.Kind.{Kind}
 use Rattle.rules.specs.declared.Kind.the-variants.{Begin, EndNode, Prop, Nop}
-use Rattle.rules.specs.Laws.Tests.{by-test, by-le, both-ways, and-true, true-and, or-left, or-right}
+use Rattle.rules.specs.Laws.Tests.{by-test, by-le, both-ways, and-true, true-and, or-left, or-right, and-none, eqb-sym}
 use Rattle.rules.specs.Laws.Octets.{nul-le, nul-byte, nul-before, begins-split, begins-append, same-eq, eq-same}
-use Rattle.rules.specs.Laws.Tokens.{if-by}
-use Rattle.passes.specs.Passes.{blockOf, nodesIn, eventsAt, verdict}
+use Rattle.rules.specs.Laws.Tokens.{begin-says}
+use Rattle.rules.specs.Laws.Events.{eventsAt}
+use Rattle.passes.specs.Passes.{blockOf, nodesIn, verdict}
 use Rattle.passes.specs.declared.Found.{Found}
 use Rattle.passes.specs.declared.Found.the-variants.{Nothing, At}
 use Rattle.passes.specs.Rows.{hasRow}
@@ -36,20 +37,27 @@ use Rattle.passes.specs.Siblings.{namedAt, rowNamed, siblingBelow, rowPa
 use Rattle.passes.proofs.Turns.{events-all, events-item, events-stop}
 
 module _ (s : Bytes) (place : ℕ) (w : List ℕ) (parent : ℕ) (name : Bytes) where
-  pub siblings-none : siblingBelow s place w 0 parent name ≡ false
+  -- no row stands before the parent's
+  pub siblings-none : (n : ℕ) → n ≤ parent → siblingBelow s place w n parent name ≡ false
   unfolding siblingBelow
-  siblings-none = refl
+  siblings-none zero h = refl
+  siblings-none (suc n) h = rw (lt-leb parent n (omega arith)) (siblings-none n (omega arith))
 
-  pub siblings-more : (n : ℕ) → siblingBelow s place w n parent name ≡ false → rowNamed s place w n parent name ≡ false → siblingBelow s place w (n + 1) parent name ≡ false
+  pub siblings-more : (n : ℕ) → parent ≤ n → siblingBelow s place w n parent name ≡ false → rowNamed s place w n parent name ≡ false → siblingBelow s place w (n + 1) parent name ≡ false
   unfolding siblingBelow
-  siblings-more n h k = rw (add-one n, k, h)
+  siblings-more n l h k = rw (add-one n, le-leb parent n l, k, h)
 
-  pub siblings-hit : (n m : ℕ) → n < m → rowNamed s place w n parent name ≡ true → siblingBelow s place w m parent name ≡ true
+  pub siblings-hit : (n m : ℕ) → parent ≤ n → n < m → rowNamed s place w n parent name ≡ true → siblingBelow s place w m parent name ≡ true
   unfolding siblingBelow
-  siblings-hit n zero h k = absurd (let z : ⊥ = omega arith in z)
-  siblings-hit n (suc m) h k = by-test (eqb n m)
-      (λ e. or-left (rowNamed s place w m parent name) _ (ap (λ (x : ℕ). rowNamed s place w x parent name) (sym (eqb-true n m e)) ∙ k))
-      (λ e. or-right (rowNamed s place w m parent name) _ (siblings-hit n m (let ne = eqb-false n m e in omega arith) k))
+  siblings-hit n zero l h k = absurd (let z : ⊥ = omega arith in z)
+  siblings-hit n (suc m) l h k = by-test (eqb n m)
+      (λ e. or-left (leb parent m && rowNamed s place w m parent name) _ (ap (λ (x : ℕ). leb parent x && rowNamed s place w x parent name) (sym (eqb-true n m e)) ∙ true-and (leb parent n) (rowNamed s place w n parent name) (le-leb parent n l) k))
+      (λ e. or-right (leb parent m && rowNamed s place w m parent name) _ (siblings-hit n m l (let ne = eqb-false n m e in omega arith) k))
+
+  -- a search from the parent's row on has come to its end
+  pub siblings-end : (n m : ℕ) → parent ≤ m → m - parent ≤ n - parent → n ≤ m → siblingBelow s place w m parent name ≡ false → siblingBelow s place w n parent name ≡ false
+  siblings-end n m l k h e =
+      by-le n parent (λ p. siblings-none n p) (λ p. let q : n ≡ m = omega arith in ap (λ (x : ℕ). siblingBelow s place w x parent name) q ∙ e)
 
 -- ---- a name without NUL
 
@@ -102,50 +110,30 @@ no-nul r i h e =
     let k : i < nulIn r = omega (arith, length-take-le (nulIn r) r (nul-le r)) in
     nul-before r i k (sym (getD-take (nulIn r) r i 0 k) ∙ e)
 
--- ---- how long the name behind a BEGIN is
-
-abbrev Length : Bytes → ℕ → Token → Type 0
-Length s at (Item (Begin len) next) = len ≡ nulIn (drop (at + 4) s)
-Length s at (Item EndNode next) = Unit {0}
-Length s at (Item (Prop len name value) next) = Unit {0}
-Length s at (Item Nop next) = Unit {0}
-Length s at End = Unit {0}
-Length s at Cut = Unit {0}
-
-length-prop : (s : Bytes) (at b : ℕ) → Length s at (propAt s b)
-unfolding propAt
-length-prop s at b =
-    if-by (Length s at) (leb (b + 8) (length s))
-    (λ _. if-by (Length s at) (leb (b + 8 + padded (wordAt s b)) (length s)) (λ _. tt) (λ _. tt))
-    (λ _. tt)
-
-length-begin : (s : Bytes) (at : ℕ) → Length s at (beginAt s (at + 4))
-unfolding beginAt
-length-begin s at =
-    if-by (Length s at) (leb (at + 4 + padded (nulIn (drop (at + 4) s) + 1)) (length s)) (λ _. refl) (λ _. tt)
-
-length-tagged : (s : Bytes) (at tag : ℕ) → Length s at (tagged tag s (at + 4))
-unfolding tagged
-length-tagged s at tag =
-    if-by (Length s at) (eqb tag 1) (λ _. length-begin s at)
-    (λ _. if-by (Length s at) (eqb tag 2) (λ _. tt)
-    (λ _. if-by (Length s at) (eqb tag 3) (λ _. length-prop s at (at + 4))
-    (λ _. if-by (Length s at) (eqb tag 4) (λ _. tt)
-    (λ _. if-by (Length s at) (eqb tag 9) (λ _. tt) (λ _. tt)))))
-
-length-token : (s : Bytes) (at : ℕ) → Length s at (tokenAt s at)
-unfolding tokenAt
-length-token s at = if-by (Length s at) (leb (at + 4) (length s)) (λ _. length-tagged s at (wordAt s at)) (λ _. tt)
-
-name-length : (s : Bytes) (at len next : ℕ) → tokenAt s at ≡ Item (Begin len) next → len ≡ nulIn (drop (at + 4) s)
-name-length s at len next e = subst (Length s at) e (length-token s at)
-
 -- ---- the walk
+
+-- the open nodes stand before node n
+abbrev Before : ℕ → List ℕ → Type 0
+Before n [] = Unit {0}
+Before n (i ∷ is) = (i ≤ n) × Before n is
+
+before-top : (n : ℕ) (stack : List ℕ) → Before n stack → top stack ≤ n
+before-top n [] h = omega arith
+before-top n (i ∷ is) h = h .0
+
+before-rest : (n : ℕ) (stack : List ℕ) → Before n stack → Before n (rest stack)
+before-rest n [] h = tt
+before-rest n (i ∷ is) h = h .1
+
+before-more : (n : ℕ) (stack : List ℕ) → Before n stack → Before (suc n) stack
+before-more n [] h = tt
+before-more n (i ∷ is) h = (omega (arith, h .0), before-more n is (h .1))
 
 -- how far the walk has come: the open nodes, the nodes before, and that the rows say what those nodes say
 pub record Come (s strings : Bytes) (place : ℕ) (w : List ℕ) (at count : ℕ) : Type 0 where
   pub stack : List ℕ
   pub seen : List Node
+  pub behind : Before count stack
   pub rest : doubledFrom seen (nodesFrom stack count (eventsAt (blockOf s strings place) at)) ≡ doubledJudged (nodesIn s strings place)
   pub ahead : nodesFrom stack count (eventsAt (blockOf s strings place) at) ≡ drop count (nodesIn s strings place)
   pub below : (n : Node) → NoNul (n .name) → sibling n seen ≡ siblingBelow s place w count (n .parent) (n .name)
@@ -157,6 +145,7 @@ come-start s strings place w =
     record {
       stack = [];
       seen = [];
+      behind = tt;
       rest = ap (λ (es : List Event). doubledFrom [] (nodesFrom [] 0 es)) (events-all b);
       ahead = ap (nodesFrom [] 0) (events-all b);
       below = λ n h. refl;
@@ -186,9 +175,6 @@ from-step seen n ns v e = assoc (first (record { fails = sibling n seen; number 
     assoc (gives u) b = refl
     assoc (refuses m x) b = refl
 
-eqb-sym : (a b : ℕ) → eqb a b ≡ eqb b a
-eqb-sym a b = both-ways (eqb a b) (eqb b a) (λ e. eq-eqb b a (sym (eqb-true a b e))) (λ e. eq-eqb a b (sym (eqb-true b a e)))
-
 module _ (s strings : Bytes) (place : ℕ) (w : List ℕ) (at count : ℕ) (i : at ≤ length s) (r : Token) (e : r ≡ tokenAt s at) (c : Come s strings place w at count) where
   abbrev b : Block
   b = blockOf s strings place
@@ -207,11 +193,12 @@ module _ (s strings : Bytes) (place : ℕ) (w : List ℕ) (at count : ℕ) (i : 
     said : (k : Kind) → kind ≡ k → eventsAt b at ≡ saying b at (Item k next) (eventsAt b next)
     said k g = events-item b at i r e kind next f ∙ ap (λ (l : Kind). saying b at (Item l next) (eventsAt b next)) g
 
-    moved : (stack : List ℕ) → nodesFrom (c .stack) count (eventsAt b at) ≡ nodesFrom stack count (eventsAt b next) → Come s strings place w next count
-    moved stack m =
+    moved : (stack : List ℕ) → Before count stack → nodesFrom (c .stack) count (eventsAt b at) ≡ nodesFrom stack count (eventsAt b next) → Come s strings place w next count
+    moved stack h m =
         record {
           stack = stack;
           seen = c .seen;
+          behind = h;
           rest = ap (doubledFrom (c .seen)) (sym m) ∙ c .rest;
           ahead = sym m ∙ c .ahead;
           below = c .below;
@@ -219,14 +206,14 @@ module _ (s strings : Bytes) (place : ℕ) (w : List ℕ) (at count : ℕ) (i : 
 
     pub come-end : kind ≡ EndNode → Come s strings place w next count
     unfolding nodesFrom
-    come-end g = moved (rest (c .stack)) (ap (nodesFrom (c .stack) count) (said EndNode g))
+    come-end g = moved (rest (c .stack)) (before-rest count (c .stack) (c .behind)) (ap (nodesFrom (c .stack) count) (said EndNode g))
 
     pub come-prop : (len name value : ℕ) → kind ≡ Prop len name value → Come s strings place w next count
     unfolding nodesFrom
-    come-prop len name value g = moved (c .stack) (ap (nodesFrom (c .stack) count) (said (Prop len name value) g))
+    come-prop len name value g = moved (c .stack) (c .behind) (ap (nodesFrom (c .stack) count) (said (Prop len name value) g))
 
     pub come-nop : kind ≡ Nop → Come s strings place w next count
-    come-nop g = moved (c .stack) (ap (nodesFrom (c .stack) count) (said Nop g))
+    come-nop g = moved (c .stack) (c .behind) (ap (nodesFrom (c .stack) count) (said Nop g))
 
     module _ (table : Table w t) (len : ℕ) (g : kind ≡ Begin len) where
       abbrev m : Node
@@ -253,7 +240,7 @@ module _ (s strings : Bytes) (place : ℕ) (w : List ℕ) (at count : ℕ) (i : 
       parented = table .parent count (listed .0) ∙ ap (λ (n : Node). n .parent) (listed .1)
 
       spelled : m .name ≡ upTo (drop (at + 4) s)
-      spelled = ap (λ (n : ℕ). take n (drop (at + 4) s)) (name-length s at len next (sym e ∙ f ∙ ap (λ (k : Kind). Item k next) g))
+      spelled = ap (λ (n : ℕ). take n (drop (at + 4) s)) (begin-says s at len next (sym e ∙ f ∙ ap (λ (k : Kind). Item k next) g) .name)
 
       nulless : NoNul (m .name)
       nulless = subst NoNul (sym spelled) (no-nul (drop (at + 4) s))
@@ -278,9 +265,19 @@ module _ (s strings : Bytes) (place : ℕ) (w : List ℕ) (at count : ℕ) (i : 
           let q : eqb (getD w (nodeWords * count + 1) 0) (n .parent) ≡ eqb (n .parent) (m .parent) = ap (λ (x : ℕ). eqb x (n .parent)) parented ∙ eqb-sym (top (c .stack)) (n .parent) in
           simp (row, l, k, q)
 
+      -- its parent's row does not stand behind its own
+      bounded : (n : Node) → NoNul (n .name) → leb (n .parent) count && rowNamed s place w count (n .parent) (n .name) ≡ eqb (n .parent) (m .parent) && same (n .name) (m .name)
+      bounded n h =
+          let row = rowNamed s place w count (n .parent) (n .name) in
+          by-test (eqb (n .parent) (m .parent))
+          (λ e. let l : leb (n .parent) count ≡ true = le-leb (n .parent) count (omega (arith, eqb-true (n .parent) (m .parent) e, before-top count (c .stack) (c .behind))) in
+          ap (λ (x : Bool). x && row) l ∙ rowed n h)
+          (λ e. let z : row ≡ false = rowed n h ∙ ap (λ (x : Bool). x && same (n .name) (m .name)) e in
+          ap (λ (x : Bool). leb (n .parent) count && x) z ∙ and-none (leb (n .parent) count) ∙ sym (ap (λ (x : Bool). x && same (n .name) (m .name)) e))
+
       one-more : (n : Node) → NoNul (n .name) → sibling n (m ∷ c .seen) ≡ siblingBelow s place w (suc count) (n .parent) (n .name)
       unfolding sibling siblingBelow
-      one-more n k = ap₂ (λ (x y : Bool). x || y) (sym (rowed n k)) (c .below n k)
+      one-more n k = ap₂ (λ (x y : Bool). x || y) (sym (bounded n k)) (c .below n k)
 
       pub come-begin : (q : Found) → q ≡ Nothing → verdict 10 place q ≡ nodeJudged s strings place w count at len next place → Come s strings place w next (count + 1)
       come-begin q k j =
@@ -290,6 +287,7 @@ module _ (s strings : Bytes) (place : ℕ) (w : List ℕ) (at count : ℕ) (i : 
           (record {
             stack = count ∷ c .stack;
             seen = m ∷ c .seen;
+            behind = (omega arith, before-more count (c .stack) (c .behind));
             rest = sym (ap (doubledFrom (c .seen)) opened ∙ d) ∙ c .rest;
             ahead = listed .2;
             below = one-more;

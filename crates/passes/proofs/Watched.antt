@@ -11,10 +11,10 @@ use types.Run.{OneOf, miss}
 use denote.Enum.Declared.{tagOf}
 use borrow.Author.Tests.{eqb-true, eq-eqb, ne-eqb}
 use Rattle.rules.specs.Octets.{Bytes, if_then_else_, byteAt, wordAt, ascii, same}
-use Rattle.rules.specs.Outcome.{Verdict, gives, refuses, passes, _then_, Test, first}
+use Rattle.rules.specs.Outcome.{Verdict, refuses, passes, _then_, first}
 use Rattle.rules.specs.Blob.{Block}
 use Rattle.rules.specs.Events.{Property, Event, opens, has, closes, saying, eventsIn}
-use Rattle.rules.specs.Tree.{propsOf, rest, nodesFrom, nodesOf, isPhandle, readName, among, cellsNames, differs, wordsFrom, wordsJudged}
+use Rattle.rules.specs.Tree.{propsOf, rest, nodesFrom, nodesOf, isPhandle, among, cellsNames, differs, wordsFrom, wordsJudged}
 use Rattle.rules.specs.Tokens.{tokenAt}
 use Rattle.rules.specs.declared.Token.{Token}
 use Rattle.rules.specs.declared.Token.the-variants.{Item}
@@ -29,7 +29,8 @@ use Rattle.passes.specs.declared.cells.Turn.{Turn}
 use Rattle.passes.specs.declared.cells.Turn.the-variants.{Go, Fault}
 use Rattle.passes.proofs.cells.Seen as seens
 use Rattle.passes.specs.Cells.{had, onGiven, onProperty, onHas, onKind}
-use Rattle.passes.specs.Passes.{blockOf, nodesIn, eventsAt}
+use Rattle.rules.specs.Laws.Events.{eventsAt}
+use Rattle.passes.specs.Passes.{blockOf, nodesIn}
 use Rattle.passes.proofs.Turns.{events-all, events-item, events-stop}
 
 -- ---- names
@@ -132,10 +133,6 @@ pub known : (seen : Seen) (name value : Bytes) → OneOf (1 ∷ 2 ∷ []) (tagOf
 known Outside name value h = absurd (miss (1 ∷ 2 ∷ []) 0 tt h)
 known Within name value h = refl
 known (Given u) name value h = refl
-
-pub and-none : (a : Bool) → (a && false) ≡ false
-and-none true = refl
-and-none false = refl
 
 -- another phandle than the one that is known, or the same
 pub other : (seen : Seen) (u v : ℕ) → seen ≡ Given u → (u ≡ v → ⊥) → differs (had seen) v ≡ true

@@ -5,8 +5,8 @@ use lib.ListN.{length}
 use Rattle.rules.specs.Octets.{Bytes}
 use Rattle.rules.specs.Outcome.{Verdict, refuses, passes}
 use Rattle.rules.specs.Blob.{Block}
-use Rattle.rules.specs.Events.{Property, Event, eventsOf, eventsIn}
-use Rattle.rules.specs.Laws.Tokens.{tokensAt}
+use Rattle.rules.specs.Events.{Property, eventsIn}
+use Rattle.rules.specs.Laws.Events.{eventsAt}
 use Rattle.rules.specs.Tree.{Tree, propsOf, nodesOf}
 use Rattle.passes.specs.declared.Found.{Found}
 use Rattle.passes.specs.declared.Found.the-variants.{Nothing, At}
@@ -28,9 +28,6 @@ abbrev pub Inside : Bytes → Found → Type 0
 Inside s Nothing = Unit {0}
 Inside s (At at) = at + 4 ≤ length s
 
--- the events from a place of the structure on, and the properties that stand there
-unfoldable pub eventsAt : Block → ℕ → List Event
-eventsAt b at = eventsOf b (tokensAt (b .structure) at)
-
+-- the properties that stand at a place of the structure
 abbrev pub propsAt : (s strings : Bytes) (place at : ℕ) → List Property
 propsAt s strings place at = propsOf (eventsAt (blockOf s strings place) at)

@@ -1,6 +1,6 @@
 -- Siblings of one name, by the rows of the node table.
 use mathlib.Core.Path.{_≡_}
-use mathlib.Core.Bool.{Bool, true, false, _&&_, _||_}
+use mathlib.Core.Bool.{Bool, false, _&&_, _||_}
 use mathlib.Core.List.{List, [], _∷_}
 use Prim.Native.Nat.{ℕ, zero, suc, _+_, _-_, _*_, _≤_, _<_}
 use lib.Dec.{eqb, leb}
@@ -8,7 +8,7 @@ use lib.ListN.{length, getD, drop}
 use Rattle.rules.specs.Ceilings.{nodeWords, nodeCeiling, workWords}
 use Rattle.rules.specs.Octets.{Bytes, if_then_else_, byteAt, begins}
 use Rattle.rules.specs.Tree.{Tree, node, doubledProps}
-use Rattle.rules.specs.Outcome.{Verdict, _then_, Test, first}
+use Rattle.rules.specs.Outcome.{Verdict, _then_, first}
 use Rattle.rules.specs.Events.{nodeNameAt}
 use Rattle.passes.specs.Passes.{propsAt}
 use Rattle.passes.specs.Rows.{hasRow}
@@ -24,9 +24,10 @@ rowNamed s place w j parent name =
     && (leb place (getD w (nodeWords * j) 0)
     && namedAt name (drop (getD w (nodeWords * j) 0 - place + 4) s)))
 
+-- a node before i has this parent and this name; none does whose row stands before the parent's
 unfoldable pub siblingBelow : Bytes → (place : ℕ) → List ℕ → (i parent : ℕ) → Bytes → Bool
 siblingBelow s place w zero parent name = false
-siblingBelow s place w (suc i) parent name = rowNamed s place w i parent name || siblingBelow s place w i parent name
+siblingBelow s place w (suc i) parent name = leb parent i && rowNamed s place w i parent name || siblingBelow s place w i parent name
 
 abbrev pub rowParent : List ℕ → ℕ → ℕ
 rowParent w i = if hasRow w i then getD w (nodeWords * i + 1) 0 else 0

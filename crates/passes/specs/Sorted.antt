@@ -3,8 +3,8 @@ use mathlib.Core.Path.{_≡_}
 use mathlib.Core.Logic.{_⊎_}
 use mathlib.Core.Bool.{Bool, true, false, _||_}
 use mathlib.Core.List.{List}
-use Prim.Native.Nat.{ℕ, zero, suc, _+_, _-_, _≤_, _<_}
-use lib.ListN.{length, getD}
+use Prim.Native.Nat.{ℕ, zero, suc, _+_, _≤_, _<_, min}
+use lib.ListN.{getD}
 use Rattle.rules.specs.Octets.{Bytes, before, same}
 use Rattle.rules.specs.Events.{stringAt}
 use Rattle.passes.specs.declared.sorted.Spot.{Spot}
@@ -53,11 +53,15 @@ pub record Inserted (w : List ℕ) (n at offset : ℕ) (u : List ℕ) : Type 0 w
   pub above : (i : ℕ) → at ≤ i → i < n → getD u (chunkStart + (i + 1)) 0 ≡ getD w (chunkStart + i) 0
   pub outside : (i : ℕ) → (i < chunkStart) ⊎ (chunkStart + n < i) → getD u i 0 ≡ getD w i 0
 
--- the words outside the chunk are as they were
-pub record Framed (w u : List ℕ) : Type 0 where
-  pub outside : (i : ℕ) → (i < chunkStart) ⊎ (chunkStart + chunkRoom ≤ i) → getD u i 0 ≡ getD w i 0
+-- how many words of the chunk n names take at most
+abbrev pub taken : ℕ → ℕ
+taken n = min n chunkRoom
 
--- the words of the chunk are zero, and the others are as they were
-pub record Wiped (w u : List ℕ) : Type 0 where
-  pub zeros : (i : ℕ) → i < chunkRoom → getD u (chunkStart + i) 0 ≡ 0
-  pub outside : (i : ℕ) → (i < chunkStart) ⊎ (chunkStart + chunkRoom ≤ i) → getD u i 0 ≡ getD w i 0
+-- all words but the first n of the chunk are as they were
+pub record Framed (w : List ℕ) (n : ℕ) (u : List ℕ) : Type 0 where
+  pub outside : (i : ℕ) → (i < chunkStart) ⊎ (chunkStart + n ≤ i) → getD u i 0 ≡ getD w i 0
+
+-- the first n words of the chunk are zero, and the others are as they were
+pub record Wiped (w : List ℕ) (n : ℕ) (u : List ℕ) : Type 0 where
+  pub zeros : (i : ℕ) → i < n → getD u (chunkStart + i) 0 ≡ 0
+  pub outside : (i : ℕ) → (i < chunkStart) ⊎ (chunkStart + n ≤ i) → getD u i 0 ≡ getD w i 0

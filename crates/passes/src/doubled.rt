@@ -41,11 +41,12 @@ fn row_named(s: &[u8], place: usize, work: &[u32], j: usize, parent: u32, name: 
     named_at(name, octets::part(s, begin - place + 4, s.len()))
 }
 
-// Whether a node before i has this parent and this name, by its row.
+// Whether a node before i has this parent and this name, by its row. A node stands behind its parent, so that no row before the
+// parent's is looked at.
 fn sibling_below(s: &[u8], place: usize, work: &[u32], i: usize, parent: u32, name: &[u8]) -> bool
     ensures { λ r. ⌜ r ≡ siblingBelow (now (s .entry)) place (now (work .entry)) i parent (now (name .entry)) ⌝ }
 {
-    let mut j = 0;
+    let mut j = parent as usize;
     while j < i {
         if row_named(s, place, work, j, parent, name) {
             return true;

@@ -4,6 +4,7 @@ use crate::sorted::CHUNK_ROOM;
 use crate::sorted::Spot;
 use crate::sorted::find;
 use crate::sorted::insert;
+use crate::sorted::taken;
 use crate::sorted::wipe;
 use rules::Kind;
 use rules::Token;
@@ -14,7 +15,7 @@ ghost use Prim.Native.Nat.{ℕ, _≤_};
 ghost use lib.ListN.{length};
 ghost use Rattle.rules.specs.Tree.{doubledProps};
 ghost use Rattle.passes.specs.Passes.{propsAt, verdict, Inside};
-ghost use Rattle.passes.specs.Sorted.{chunkRoom, Ordered, Framed};
+ghost use Rattle.passes.specs.Sorted.{chunkRoom, taken, Ordered, Framed};
 ghost use Rattle.passes.specs.Props.{Stands, Meets, Builds, Clear};
 ghost use Rattle.rules.specs.Ceilings.{workWords};
 
@@ -123,7 +124,7 @@ fn lookup(s: &[u8], strings: &[u8], work: &[u32], from: usize, left: usize) -> H
 fn build(s: &[u8], strings: &[u8], work: &mut [u32], from: usize, left: usize) -> Built
     requires { ⌜ (from ≤ length (now s)) × (workWords ≤ length (now work)) ⌝ }
     ensures built { λ r. ⌜ Builds (now (s .entry)) (now (strings .entry)) from left (now (work .exit)) r ⌝ }
-    ensures framed { λ _. ⌜ Framed (now (work .entry)) (now (work .exit)) ⌝ }
+    ensures framed { λ _. ⌜ Framed (now (work .entry)) (taken left) (now (work .exit)) ⌝ }
 {
     let mut n = 0;
     let mut here = from;
@@ -146,15 +147,15 @@ fn build(s: &[u8], strings: &[u8], work: &mut [u32], from: usize, left: usize) -
     Built::Full(here)
 }
 
-// The first property from a place on that has the name of one before it. Each chunk is looked for in what is behind it, up to
-// the earliest that is found so far.
-fn chunks(s: &[u8], strings: &[u8], work: &mut [u32], from: usize) -> Found
-    requires { ⌜ (from ≤ length (now s)) × (workWords ≤ length (now work)) ⌝ }
+// The first property from a place on, where so many stand, that has the name of one before it. Each chunk is looked for in what
+// is behind it, up to the earliest that is found so far.
+fn chunks(s: &[u8], strings: &[u8], work: &mut [u32], from: usize, all: usize) -> Found
+    requires { ⌜ (from ≤ length (now s)) × (workWords ≤ length (now work)) × ((place : ℕ) → all ≡ length (propsAt (now s) (now strings) place from)) ⌝ }
     ensures judged { λ r. ⌜ ((place : ℕ) → verdict 10 place r ≡ doubledProps [] (propsAt (now (s .entry)) (now (strings .entry)) place from)) ⌝ }
     ensures inside { λ r. ⌜ Inside (now (s .entry)) r ⌝ }
-    ensures framed { λ _. ⌜ Framed (now (work .entry)) (now (work .exit)) ⌝ }
+    ensures framed { λ _. ⌜ Framed (now (work .entry)) (taken all) (now (work .exit)) ⌝ }
 {
-    let mut left = count(s, strings, from);
+    let mut left = all;
     let mut here = from;
     let mut found = Found::Nothing;
     while 0 < left {
@@ -188,7 +189,8 @@ pub fn doubled_props(s: &[u8], strings: &[u8], work: &mut [u32], from: usize) ->
     if work.len() < WORK_WORDS {
         return Found::Nothing;
     }
-    let found = chunks(s, strings, work, from);
-    wipe(work);
+    let all = count(s, strings, from);
+    let found = chunks(s, strings, work, from, all);
+    wipe(work, taken(all));
     found
 }

@@ -25,10 +25,11 @@ fn row_has(work: &[u32], i: usize, v: u32) -> bool
         return false;
     }
     let at = NODE_WORDS * i;
-    if work[at + 2] != 1 {
+    // The number first: it differs nearly always, which a test that is made for every row should.
+    if work[at + 3] != v {
         return false;
     }
-    work[at + 3] == v
+    work[at + 2] == 1
 }
 
 // Whether the row of a node before i says that its phandle is v.

@@ -6,9 +6,8 @@ use rules::WORK_WORDS;
 ghost use mathlib.Core.Path.{_≡_};
 ghost use Prim.Native.Nat.{ℕ, _+_, _≤_, _<_};
 ghost use lib.ListN.{length};
-ghost use Rattle.rules.specs.Ceilings.{workWords};
 ghost use Rattle.rules.specs.Octets.{before, same};
-ghost use Rattle.passes.specs.Sorted.{chunkStart, chunkRoom, keyAt, Ordered, Between, Finds, Inserted, Wiped};
+ghost use Rattle.passes.specs.Sorted.{chunkStart, chunkRoom, keyAt, taken, Ordered, Between, Finds, Inserted, Wiped};
 
 // Where the chunk begins, and how many names it holds at most.
 const CHUNK_START: usize = NODE_WORDS * NODE_CEILING;
@@ -111,13 +110,23 @@ pub fn insert(work: &mut [u32], n: usize, at: usize, offset: u32)
     work[CHUNK_START + at] = offset;
 }
 
-// Makes the words of the chunk zero.
-pub fn wipe(work: &mut [u32])
-    requires { ⌜ workWords ≤ length (now work) ⌝ }
-    ensures { λ _. ⌜ Wiped (now (work .entry)) (now (work .exit)) ⌝ }
+// How many words of the chunk n names take at most.
+pub fn taken(n: usize) -> usize
+    ensures { λ r. ⌜ r ≡ taken n ⌝ }
+{
+    if n < CHUNK_ROOM {
+        return n;
+    }
+    CHUNK_ROOM
+}
+
+// Makes the first n words of the chunk zero.
+pub fn wipe(work: &mut [u32], n: usize)
+    requires { ⌜ chunkStart + n ≤ length (now work) ⌝ }
+    ensures { λ _. ⌜ Wiped (now (work .entry)) n (now (work .exit)) ⌝ }
 {
     let mut i = 0;
-    while i < CHUNK_ROOM {
+    while i < n {
         work[CHUNK_START + i] = 0;
         i += 1;
     }

@@ -1,16 +1,16 @@
 -- A byte string matched from its end on.
-use mathlib.Core.Path.{_≡_, refl, sym, ap, ap₂, _∙_}
-use mathlib.Core.Bool.{Bool, true, false, not, _&&_}
-use mathlib.Core.List.{List, [], _∷_, _++_}
+use mathlib.Core.Path.{_≡_, sym, ap, _∙_}
+use mathlib.Core.Bool.{true, false, _&&_}
+use mathlib.Core.List.{[], _∷_, _++_}
 use Prim.Native.Nat.{ℕ, _+_, _-_, _≤_, _<_}
 use native.Mathlib.Omega.{arith}
 use lib.Dec.{eqb}
-use lib.ListN.{length, take, drop, getD, length-append, length-take, take-append-drop}
+use lib.ListN.{length, take, drop, length-append, take-append-drop}
 use lib.Seq.{length-take-le, take-at, take-take, take-add, drop-at}
 use borrow.Author.Tests.{eq-eqb, ne-eqb}
 use Rattle.rules.specs.Octets.{Bytes, byteAt, same, ends}
-use Rattle.rules.specs.Laws.Tests.{by-le, by-test, never, both-ways, and-true, true-and}
-use Rattle.rules.specs.Laws.Octets.{same-eq, same-refl, eq-same, ends-short, ends-at, ends-append, drop-taken}
+use Rattle.rules.specs.Laws.Tests.{by-le, never, both-ways, and-true, true-and}
+use Rattle.rules.specs.Laws.Octets.{same-eq, eq-same, ends-short, ends-at, ends-append, drop-taken}
 
 pub ends-length : (s q : Bytes) → ends s q ≡ true → length s ≤ length q
 ends-length s q h = by-le (length s) (length q) (λ k. k) (λ k. never (ends s q) h (ends-short s q k))
@@ -83,11 +83,3 @@ module _ (p n : Bytes) (e : ℕ) (h : e ≤ length p) where
       by : (q : Bytes) → length q ≡ e → same [] q ≡ eqb e 0
       by [] k = sym (eq-eqb e 0 (sym k))
       by (x ∷ q) k = sym (ne-eqb e 0 (λ z. let y : ⊥ = omega arith in absurd y))
-
-pub un-not : (b : Bool) → not b ≡ true → b ≡ false
-un-not true e = sym e
-un-not false e = refl
-
-pub un-not-false : (b : Bool) → not b ≡ false → b ≡ true
-un-not-false true e = refl
-un-not-false false e = sym e

@@ -1,25 +1,24 @@
 -- The pass of refusal 12 on the table that the walk leaves: it judges as the definition does, and completes the rows.
-use mathlib.Core.Path.{_≡_, refl, sym, ap, ap₂, _∙_, subst}
-use mathlib.Core.Bool.{Bool, true, false, _&&_, _||_}
+use mathlib.Core.Path.{_≡_, refl, sym, ap, ap₂, _∙_}
+use mathlib.Core.Bool.{Bool, false, _||_}
 use mathlib.Core.List.{List, [], _∷_, _++_, append-assoc}
 use mathlib.Core.Option.{Option, none, some}
 use Prim.Native.Nat.{ℕ, zero, suc, _+_, _*_, _/_, _≤_, _<_}
 use native.Mathlib.Omega.{arith}
-use native.Mathlib.Numerals.{add-one}
-use lib.Dec.{eqb, ltb}
+use lib.Dec.{eqb}
 use lib.ListN.{length, getD, set, length-append, length-set, List·getD-append}
 use lib.Seq.{getD-append-add, getD-set-same, getD-set-other, set-at}
-use borrow.Author.Tests.{eqb-true, eq-eqb, lt-ltb}
+use borrow.Author.Tests.{lt-ltb}
 use Rattle.rules.specs.Ceilings.{workWords, nodeWords}
 use Rattle.rules.specs.Octets.{wordAt}
 use Rattle.rules.specs.Lists.{oneOf}
-use Rattle.rules.specs.Outcome.{Verdict, gives, refuses, passes}
+use Rattle.rules.specs.Outcome.{Verdict, gives, refuses}
 use Rattle.rules.specs.Events.{Property}
-use Rattle.rules.specs.Tree.{Node, Tree, phandleProp, phandleOf, sharedFrom, sharedJudged}
+use Rattle.rules.specs.Tree.{Node, Tree, phandleProp, sharedFrom, sharedJudged}
 use Rattle.rules.specs.Reader.{rowOf, rowsOf, spaceOf}
-use Rattle.rules.specs.Laws.Tests.{by-test, both-ways, or-nothing}
+use Rattle.rules.specs.Laws.Tests.{by-test, or-nothing, or-comm, eqb-sym}
 use Rattle.rules.specs.Laws.Reader.{startOf, startsOf, starts-length, space-length, space-get, space-set, space-space}
-use Rattle.passes.specs.Rows.{hasRow, rowHas, rowBelow, rowGiven, rowsFrom}
+use Rattle.passes.specs.Rows.{rowHas, rowBelow, rowGiven, rowsFrom}
 
 -- ---- two words of a row are written
 
@@ -62,15 +61,6 @@ has-some w i u v h e f = rw (lt-ltb i (length w / 4) (omega arith), e, f)
 given-is : (w : List ℕ) (i v : ℕ) → 4 * i + 4 ≤ length w → rowGiven w i v ≡ set (set w (4 * i + 2) 1) (4 * i + 3) v
 unfolding rowGiven nodeWords
 given-is w i v h = rw (lt-ltb i (length w / 4) (omega arith))
-
-eqb-comm : (u v : ℕ) → eqb u v ≡ eqb v u
-eqb-comm u v = both-ways (eqb u v) (eqb v u) (λ e. eq-eqb v u (sym (eqb-true u v e))) (λ e. eq-eqb u v (sym (eqb-true v u e)))
-
-or-comm : (a b : Bool) → (a || b) ≡ (b || a)
-or-comm true true = refl
-or-comm true false = refl
-or-comm false true = refl
-or-comm false false = refl
 
 -- a row, by what the node's properties say
 row-none : (n : Node) → phandleProp (n .props) ≡ none → rowOf n ≡ startOf (n .place) (n .parent)
@@ -164,7 +154,7 @@ module _ (d : List ℕ) (room : workWords ≤ length d) where
           fits = omega (arith, r .fits);
           told = λ v.
               ap₂ (λ (s t : Bool). s || t) (below-same w i i v (4 * i + 2) (4 * i + 3) 1 u (omega arith) (omega arith) (omega arith) ∙ r .told v)
-              (has-some w′ i u v (omega (arith, l, inside)) marked given ∙ eqb-comm u v)
+              (has-some w′ i u v (omega (arith, l, inside)) marked given ∙ eqb-sym u v)
               ∙ or-comm (oneOf v seen) (eqb v u);
         })
 

@@ -1,6 +1,6 @@
 -- The search for a cells property over tokens is the look into the properties that they say.
 use mathlib.Core.Path.{_≡_, refl, sym, ap, _∙_}
-use mathlib.Core.Bool.{Bool, true, false, not}
+use mathlib.Core.Bool.{true, false}
 use mathlib.Core.List.{List, [], _∷_}
 use mathlib.Core.Option.{Option, none, some}
 use Prim.Native.Nat.{ℕ, _≤_}
@@ -12,7 +12,7 @@ use Rattle.rules.proofs.Token as tokened
 use Rattle.rules.specs.Octets.{Bytes, wordAt, part, ascii, same}
 use Rattle.rules.specs.Blob.{Block}
 use Rattle.rules.specs.Tokens.{tokenAt}
-use Rattle.rules.specs.Events.{Property, Event, has, stringAt, saying}
+use Rattle.rules.specs.Events.{Property, Event, stringAt, saying}
 use Rattle.rules.specs.Tree.{propsOf, valueOf}
 use Rattle.rules.specs.References.{wordNamed}
 use Rattle.rules.specs.declared.Token.{Token}
@@ -108,14 +108,6 @@ module _ (b : Block) (o : Option String) (at : ℕ) (r : Token) (e : r ≡ token
       count-on h = step ∙ ap (λ (q : Turn). said q (countAt b o next)) h
 
 -- ---- one token
-
-pub un-not : (b : Bool) → not b ≡ true → b ≡ false
-un-not true e = sym e
-un-not false e = refl
-
-pub un-not-false : (b : Bool) → not b ≡ false → b ≡ true
-un-not-false true e = refl
-un-not-false false e = sym e
 
 module _ (structure strings : Bytes) (o : Option String) (kind : Kind) (len name value : ℕ) (e : kind ≡ Prop len name value) where
   pub turn-other : isNamed o (stringAt strings name) ≡ false → On ≡ onKind structure strings o kind

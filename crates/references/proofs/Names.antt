@@ -1,26 +1,18 @@
 -- Names: what is asked of a name that was found to be a given text is asked of the text.
 use mathlib.Core.Path.{_≡_, refl, sym, ap, _∙_}
-use mathlib.Core.Bool.{Bool, true, false, not, _&&_, _||_}
+use mathlib.Core.Bool.{Bool, true, false, _||_}
 use mathlib.Core.List.{List, [], _∷_, _++_}
 use mathlib.Core.Option.{none, some}
 use Prim.Native.String.{String}
 use lib.ListN.{take, drop}
 use Rattle.rules.specs.Octets.{Bytes, if_then_else_, ascii, same}
 use Rattle.rules.specs.Tree.{among}
-use Rattle.rules.specs.References.{referenceNames, isGpio, Row, cellRows, cellsIn}
-use Rattle.rules.specs.Laws.Tests.{or-false}
+use Rattle.rules.specs.References.{referenceNames, isGpio, Row, cellsIn}
+use Rattle.rules.specs.Laws.Tests.{or-false, or-assoc}
 use Rattle.rules.specs.Laws.Octets.{same-eq}
 
 pub known {ℓ} : {A : Type ℓ} (f : Bytes → A) (n s : Bytes) (r : Bool) (x : A) → r ≡ same n s → r ≡ true → f s ≡ x → x ≡ f n
 known f n s r x p q e = sym (ap f (same-eq n s (sym p ∙ q)) ∙ e)
-
-or-assoc : (a b c : Bool) → ((a || b) || c) ≡ (a || (b || c))
-or-assoc true b c = refl
-or-assoc false b c = refl
-
-pub and-not : (a : Bool) → (a && false) ≡ false
-and-not true = refl
-and-not false = refl
 
 among-append : (n : Bytes) (a b : List String) → among n (a ++ b) ≡ (among n a || among n b)
 unfolding among

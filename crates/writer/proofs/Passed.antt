@@ -1,21 +1,22 @@
 -- What is known of a state and its buffers once a call's tests have passed, and what a call then answers and leaves.
-use mathlib.Core.Path.{_≡_, refl, sym, ap, _∙_}
-use mathlib.Core.Bool.{Bool, true, false, not, _&&_, _||_}
+use mathlib.Core.Path.{_≡_, refl, ap, _∙_}
+use mathlib.Core.Bool.{Bool, true, false, not, _||_}
 use mathlib.Core.List.{List, [], _∷_, _++_}
-use Prim.Native.Nat.{ℕ, _+_, _-_, _*_, _%_, _≤_, _<_, min}
+use Prim.Native.Nat.{ℕ, _+_, _%_, _≤_, _<_}
 use native.Mathlib.Omega.{arith}
 use lib.Dec.{leb, ltb, eqb}
-use lib.ListN.{length, take, length-append}
+use lib.ListN.{length, length-append}
 use lib.Seq.{length-take-le}
-use borrow.Author.Tests.{ltb-false, leb-true, leb-false, eqb-true, eqb-false, eq-eqb, ne-eqb}
+use borrow.Author.Tests.{ltb-false, leb-false, eqb-true, eqb-false, not-false}
 use Rattle.rules.specs.Ceilings.{blobCeiling, openCeiling}
-use Rattle.rules.specs.Octets.{Bytes, if_then_else_, be32, words32, put, lay, hasNul}
-use Rattle.rules.specs.Names.{nodeNameValid, propertyNameValid}
-use Rattle.rules.specs.Outcome.{Outcome, gives, refuses, Verdict, passes, settled, Test, first}
-use Rattle.rules.specs.Writer.{State, Answer, answer, room, noRoom, impossible, wrongState, test, beginBytes, endBytes, beginJudged, endJudged, finishJudged, finishData, total, headerBytes, headerOf, stringsOf}
+use Rattle.rules.specs.Octets.{Bytes, if_then_else_, be32, put, lay, hasNul}
+use Rattle.rules.specs.Names.{nodeNameValid}
+use Rattle.rules.specs.Outcome.{refuses, Verdict, passes, settled, Test, first}
+use Rattle.rules.specs.Writer.{State, answer, room, noRoom, impossible, wrongState, test, beginBytes, endBytes, beginJudged, endJudged, finishJudged, finishData, total, headerOf, stringsOf}
 use Rattle.rules.specs.Laws.Tests.{or-false}
 use Rattle.rules.specs.Laws.Octets.{lay-put, length-lay, length-be32}
-use Rattle.rules.specs.Laws.Writer.{laid-on, length-words32}
+use Rattle.rules.specs.Laws.Writer.{laid-on}
+use Rattle.rules.specs.Laws.Header.{length-header}
 
 -- ---- verdicts
 
@@ -48,10 +49,6 @@ none b (c ∷ cs) e =
     let o = or-false b c (r .0) in
     (o .0, (o .1, r .1))
 
-pub not-no : (t : Bool) → not t ≡ false → t ≡ true
-not-no true e = refl
-not-no false e = sym e
-
 -- a refused call leaves all as it was
 pub answer-refused : (v : Verdict) (n : ℕ) (old new : State) → refuses n 0 ≡ v → record { verdict = refuses n 0; state = old } ≡ answer v old new
 answer-refused v n old new e = rw (← e)
@@ -73,9 +70,9 @@ pub record Possible (w : State) (dataLent stringsLent : ℕ) : Type 0 where
   pub low : w .structure ≤ w .dataLength
   pub deep : w .depth ≤ 64
   pub inData : w .dataLength ≤ dataLent
-  pub dataSmall : w .dataLength ≤ 1048576
+  pub dataSmall : w .dataLength ≤ blobCeiling
   pub inStrings : w .stringsLength ≤ stringsLent
-  pub stringsSmall : w .stringsLength ≤ 1048576
+  pub stringsSmall : w .stringsLength ≤ blobCeiling
 
 pub possible : (w : State) (a b : ℕ) → impossible w a b ≡ false → Possible w a b
 unfolding impossible blobCeiling openCeiling
@@ -99,7 +96,7 @@ possible w a b e =
     record { high = high; low = low; deep = omega arith; inData = omega arith; dataSmall = omega arith; inStrings = omega arith; stringsSmall = omega arith }
 
 -- there is room for so many bytes
-pub fits : (lent after : ℕ) → noRoom lent after .fails ≡ false → (after ≤ lent) × (after ≤ 1048576)
+pub fits : (lent after : ℕ) → noRoom lent after .fails ≡ false → (after ≤ lent) × (after ≤ blobCeiling)
 unfolding blobCeiling
 fits lent after e =
     let h : after ≤ room lent = ltb-false _ _ e in
@@ -108,7 +105,7 @@ fits lent after e =
 -- ---- what passed
 
 pub begin-passed : (w : State) (lent : ℕ) (name : Bytes) → passes ≡ beginJudged w lent name
-    → (w .depth < 64) × (w .dataLength + length (beginBytes name) ≤ lent) × (w .dataLength + length (beginBytes name) ≤ 1048576)
+    → (w .depth < 64) × (w .dataLength + length (beginBytes name) ≤ lent) × (w .dataLength + length (beginBytes name) ≤ blobCeiling)
 unfolding beginJudged openCeiling
 begin-passed w lent name e =
     let t =
@@ -124,7 +121,7 @@ begin-passed w lent name e =
     (leb-false openCeiling (w .depth) (t .1 .0), f .0, f .1)
 
 pub end-passed : (w : State) (lent depth : ℕ) → passes ≡ endJudged w lent depth
-    → (0 < w .depth) × (w .dataLength + length endBytes ≤ lent) × (w .dataLength + length endBytes ≤ 1048576)
+    → (0 < w .depth) × (w .dataLength + length endBytes ≤ lent) × (w .dataLength + length endBytes ≤ blobCeiling)
 unfolding endJudged
 end-passed w lent depth e =
     let t =
@@ -133,11 +130,11 @@ end-passed w lent depth e =
     e in
     let o = or-false (eqb depth 0) (not (eqb depth (w .depth))) (t .1 .0) in
     let some = eqb-false depth 0 (o .0) in
-    let same = eqb-true depth (w .depth) (not-no _ (o .1)) in
+    let same = eqb-true depth (w .depth) (not-false _ (o .1)) in
     let f = fits lent (w .dataLength + length endBytes) (t .1 .1 .0) in
     (omega arith, f .0, f .1)
 
-pub finish-passed : (w : State) (a b : ℕ) → passes ≡ finishJudged w a b → Possible w a b × (total w ≤ a) × (total w ≤ 1048576)
+pub finish-passed : (w : State) (a b : ℕ) → passes ≡ finishJudged w a b → Possible w a b × (total w ≤ a) × (total w ≤ blobCeiling)
 unfolding finishJudged
 finish-passed w a b e =
     let t = all-passed (wrongState w a b ∷ test (not (eqb (w .depth) 0)) 26 ∷ noRoom a (total w) ∷ []) e in
@@ -146,9 +143,8 @@ finish-passed w a b e =
 
 -- ---- what is left
 
-length-header : (w : State) → length (headerOf w) ≡ 40
-unfolding headerBytes
-length-header w = length-words32 _
+length-of : (w : State) → length (headerOf w) ≡ 40
+length-of w = length-header _ _ _ _ _ _
 
 -- END, the strings and the header are laid in
 pub finish-left : (w : State) (d strings d₁ d₂ d₃ : Bytes) → passes ≡ finishJudged w (length d) (length strings)
@@ -161,5 +157,5 @@ finish-left w d strings d₁ d₂ d₃ v e₁ e₂ e₃ =
     let room : w .dataLength + length (be32 9 ++ stringsOf w strings) ≤ length d = omega (arith, length-append (be32 9) (stringsOf w strings), length-be32 9) in
     let same : length d₂ ≡ length d = ap length back ∙ length-lay d (w .dataLength) (be32 9 ++ stringsOf w strings) in
     e₃
-    ∙ lay-put d₂ 0 (headerOf w) (omega (arith, length-header w, p .0 .high, p .0 .inData))
+    ∙ lay-put d₂ 0 (headerOf w) (omega (arith, length-of w, p .0 .high, p .0 .inData))
     ∙ rw (back, lay-put d (w .dataLength) (be32 9 ++ stringsOf w strings) room, ← v)

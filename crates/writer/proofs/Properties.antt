@@ -1,15 +1,16 @@
 -- A property whose tests were judged by its size: what is known where they pass, and what its call answers and leaves.
 use mathlib.Core.Path.{_≡_, refl, sym, ap, _∙_}
-use mathlib.Core.Bool.{Bool, true, false, not}
-use mathlib.Core.List.{List, [], _∷_, _++_}
-use Prim.Native.Nat.{ℕ, _+_, _≤_, _<_}
+use mathlib.Core.Bool.{Bool, not}
+use mathlib.Core.List.{[], _∷_}
+use Prim.Native.Nat.{ℕ, _+_, _≤_}
 use native.Mathlib.Omega.{arith}
 use lib.Dec.{eqb, ltb}
-use lib.ListN.{length, take}
+use lib.ListN.{length}
 use lib.Seq.{length-take-le}
-use Rattle.rules.specs.Octets.{Bytes, if_then_else_, padded, lay, hasNul, closed}
+use Rattle.rules.specs.Ceilings.{blobCeiling}
+use Rattle.rules.specs.Octets.{Bytes, if_then_else_, padded, lay, hasNul}
 use Rattle.rules.specs.Names.{propertyNameValid}
-use Rattle.rules.specs.Outcome.{Outcome, gives, refuses, Verdict, passes, _then_}
+use Rattle.rules.specs.Outcome.{gives, refuses, Verdict, passes, _then_}
 use Rattle.rules.specs.Writer.{State, nameOffset, nameGrowth, noRoom, wrongState, test, stringsOf, growth, propertyBytes, propertyAt, propertyJudged, withProperty, property, propertyData, propertyStrings}
 use Rattle.rules.specs.Laws.Tests.{by-test}
 use Rattle.rules.specs.Laws.Writer.{length-closed, length-property}
@@ -18,7 +19,7 @@ use Rattle.writer.specs.Judged.{placeOf, sized, placed, grown, longer}
 use Rattle.writer.specs.declared.Error.{Error}
 use Rattle.writer.specs.declared.judge.Place.{Place}
 use Rattle.writer.specs.declared.judge.Place.the-variants.{At, Not}
-use Rattle.writer.proofs.Passed.{all-passed, possible, Possible, fits, answer-refused, answer-done, kept, changed}
+use Rattle.writer.proofs.Passed.{all-passed, possible, fits, answer-refused, answer-done, kept, changed}
 
 -- ---- a judgement, and what it gives
 
@@ -48,9 +49,9 @@ by-size w lent strings own name value size e = rw (length-property (nameOffset n
 
 pub record Placed (w : State) (dataLent : ℕ) (strings name : Bytes) (size offset : ℕ) : Type 0 where
   pub dataFits : w .dataLength + size ≤ dataLent
-  pub dataSmall : w .dataLength + size ≤ 1048576
+  pub dataSmall : w .dataLength + size ≤ blobCeiling
   pub inStrings : w .stringsLength ≤ length strings
-  pub stringsSmall : w .stringsLength ≤ 1048576
+  pub stringsSmall : w .stringsLength ≤ blobCeiling
   pub stringsFit : w .stringsLength + length (growth w strings name) ≤ length strings
   pub found : offset ≡ nameOffset name (stringsOf w strings)
   pub grows : growth w strings name ≡ grown offset (w .stringsLength) name

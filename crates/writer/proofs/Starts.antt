@@ -1,23 +1,24 @@
 -- The reservation block as it is written, and what a start leaves.
-use mathlib.Core.Path.{_≡_, refl, sym, ap, _∙_}
+use mathlib.Core.Path.{_≡_, refl, ap, _∙_}
 use mathlib.Core.Bool.{Bool, true, false}
 use mathlib.Core.List.{List, [], _∷_, _++_, append-assoc, append-nil}
-use Prim.Native.Nat.{ℕ, suc, _+_, _*_, _≤_, _<_}
+use Prim.Native.Nat.{ℕ, _+_, _*_, _≤_, _<_}
 use native.Mathlib.Omega.{arith}
 use native.Mathlib.Numerals.{add-one}
 use lib.Dec.{ltb}
-use lib.ListN.{length, take, getD, length-append, length-take, length-map, List·getD-map}
+use lib.ListN.{length, take, getD, length-append, length-map, List·getD-map}
 use lib.Seq.{take-suc, length-take-le}
 use borrow.Author.Tests.{ltb-false}
-use Rattle.rules.specs.Ceilings.{blobCeiling, reservationCeiling}
-use Rattle.rules.specs.Octets.{Bytes, be32, be64, zeros, lay}
-use Rattle.rules.specs.Outcome.{refuses, Verdict, passes}
+use Rattle.rules.specs.Ceilings.{reservationCeiling}
+use Rattle.rules.specs.Octets.{Bytes, if_then_else_, be32, be64, zeros, lay}
+use Rattle.rules.specs.Outcome.{refuses, passes}
 use Rattle.rules.specs.Reservations.{Entry, entryBytes, block, anyInvalid, overlapping, neighbours, sortedFrom}
 use Rattle.rules.specs.Writer.{State, fresh, room, test, noRoom, startBytes, startJudged, start, startData}
-use Rattle.rules.specs.Laws.Octets.{length-be64, length-zeros}
+use Rattle.rules.specs.Laws.Octets.{length-zeros}
 use Rattle.reservation.specs.declared.Reservation.{Reservation}
 use Rattle.reservation.specs.Made.{entryOf, entriesOf}
 use Rattle.writer.proofs.Passed.{all-passed, fits, answer-refused, answer-done, kept, changed}
+use Rattle.rules.specs.Laws.Header.{length-entries}
 
 -- what an element past the end is, as a check has it
 abbrev pub nowhere : Reservation
@@ -27,12 +28,6 @@ entries-append : (a b : List Entry) → entryBytes (a ++ b) ≡ entryBytes a ++ 
 unfolding entryBytes
 entries-append [] b = refl
 entries-append (e ∷ a) b = rw (entries-append a b) (simp append-assoc)
-
-length-entries : (es : List Entry) → length (entryBytes es) ≡ 16 * length es
-unfolding entryBytes
-length-entries [] = refl
-length-entries (e ∷ es) =
-    rw (length-append (be64 (e .address)), length-append (be64 (e .size)), length-be64 (e .address), length-be64 (e .size), length-entries es) (omega arith)
 
 entries-one : (e : Entry) → entryBytes (e ∷ []) ≡ be64 (e .address) ++ be64 (e .size)
 unfolding entryBytes
@@ -89,6 +84,15 @@ none-short lent e = rw (start-none, length-zeros 56, e)
 pub none-fits : (lent : ℕ) → ltb (room lent) (0 + (56 + 16 * 0)) ≡ false → passes ≡ startJudged lent [] 0
 unfolding startJudged reservationCeiling anyInvalid overlapping neighbours sortedFrom
 none-fits lent e = rw (start-none, length-zeros 56, e)
+
+-- what was granted tells whether there was room
+pub granted-none : (b : Bool) (n g : ℕ) → g ≡ (if b then 0 else n) → g < n → (b ≡ true) × (g ≡ 0)
+granted-none true n g e h = (refl, e)
+granted-none false n g e h = absurd (omega arith)
+
+pub granted-all : (b : Bool) (n g : ℕ) → g ≡ (if b then 0 else n) → 0 < n → n ≤ g → (b ≡ false) × (g ≡ n)
+granted-all true n g e z h = absurd (omega arith)
+granted-all false n g e z h = (refl, e)
 
 -- ---- what a start answers and leaves
 

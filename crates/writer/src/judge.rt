@@ -46,6 +46,16 @@ pub(crate) fn short(lent: usize, used: usize, more: usize) -> bool
     most - used < more
 }
 
+// How many of `more` bytes a buffer grants behind those used: all of them, or none where it is too small.
+pub(crate) fn granted(lent: usize, used: usize, more: usize) -> usize
+    ensures { λ r. ⌜ r ≡ (if ltb (room lent) (used + more) then 0 else more) ⌝ }
+{
+    if short(lent, used, more) {
+        return 0;
+    }
+    more
+}
+
 pub(crate) fn has_nul(s: &[u8]) -> bool
     ensures { λ r. ⌜ r ≡ hasNul (now (s .entry)) ⌝ }
 {

@@ -16,6 +16,7 @@ ghost use mathlib.Core.Bool.{false};
 ghost use mathlib.Core.List.{[]};
 ghost use Prim.Native.Nat.{_+_, _≤_};
 ghost use lib.ListN.{length};
+ghost use Rattle.rules.specs.Ceilings.{blobCeiling};
 ghost use Rattle.rules.specs.Octets.{be32, be64, words32, words64, closed, lay};
 ghost use Rattle.rules.specs.Writer.{fresh, start, startData, beginNode, beginNodeData, endNode, endNodeData, setBootCpu, property, propertyData, propertyStrings, badString, badList, phandle, phandleData, phandleStrings, phandleTable, finish, finishData};
 ghost use Rattle.reservation.specs.Made.{entriesOf};
@@ -82,10 +83,11 @@ impl FdtWriter {
         ensures bytes { λ _. ⌜ now («data» .exit) ≡ startData (now («data» .entry)) [] 0 ⌝ }
     {
         let n = start::start_size(0);
-        if judge::short(data.len(), 0, n) {
+        let granted = judge::granted(data.len(), 0, n);
+        octets::put_zeros(data, 0, granted);
+        if granted < n {
             return Written::Refused(FdtWriter::fresh(0, true), Error::NoRoom);
         }
-        octets::put_zeros(data, 0, n);
         Written::Done(FdtWriter::fresh(n, false))
     }
 
@@ -179,8 +181,8 @@ impl FdtWriter {
         name: &[u8],
         size: usize,
     ) -> FdtWriter
-        requires { ⌜ self .«data_len» + size ≤ 1048576 ⌝ }
-        requires { ⌜ self .«strings_len» ≤ 1048576 ⌝ }
+        requires { ⌜ self .«data_len» + size ≤ blobCeiling ⌝ }
+        requires { ⌜ self .«strings_len» ≤ blobCeiling ⌝ }
         ensures state { λ r. ⌜ stateOf r ≡ longer (stateOf self) size (length (grown offset (self .«strings_len») (now (name .entry)))) ⌝ }
         ensures names { λ _. ⌜ now (strings .exit) ≡ lay (now (strings .entry)) (self .«strings_len») (grown offset (self .«strings_len») (now (name .entry))) ⌝ }
     {

@@ -8,6 +8,7 @@ mod tell;
 use libc::STDIN_FILENO;
 use reservation::Made;
 use reservation::Reservation;
+use rules::BLOB_CEILING;
 use script::bytes;
 use script::count;
 use script::field1;
@@ -26,6 +27,9 @@ use writer::FdtWriter;
 use writer::Written;
 ghost use Prim.Native.Nat.{_≤_};
 ghost use lib.ListN.{length};
+
+// As much data as a case can be lent: more than counts.
+const DATA_LENT: usize = BLOB_CEILING + 8;
 
 // The reservation, or r where there is none such.
 fn entry(address: u64, size: u64, r: Reservation) -> Reservation {
@@ -287,14 +291,18 @@ fn blank(s: &[u8]) -> usize
     s.len()
 }
 
+fn run(script: &[u8], r: Reservation, data: &mut [u8; DATA_LENT]) {
+    let mut strings = io::buffer();
+    let mut phandles = [0u32; 8];
+    cases(script, r, data, &mut strings, &mut phandles);
+}
+
 fn main() {
     let mut script = io::large_buffer();
     let n = io::read_full(STDIN_FILENO, &mut script);
     let Made::Reserved(r) = Reservation::new(0, 1) else {
         return;
     };
-    let mut data = io::large_buffer();
-    let mut strings = io::buffer();
-    let mut phandles = [0u32; 8];
-    cases(&script[..n], r, &mut data, &mut strings, &mut phandles);
+    let mut data = [0u8; DATA_LENT];
+    run(&script[..n], r, &mut data);
 }

@@ -3,17 +3,17 @@ use mathlib.Core.Path.{_≡_, refl, sym, ap, _∙_}
 use mathlib.Core.Bool.{Bool, true, false, not, _&&_, _||_}
 use mathlib.Core.List.{List, [], _∷_}
 use mathlib.Core.Option.{Option, none, some, Option·map}
-use Prim.Native.Nat.{ℕ, zero, suc, _+_, _*_, _%_, _≤_, _<_}
+use Prim.Native.Nat.{ℕ, zero, suc, _+_, _%_, _≤_, _<_}
 use native.Mathlib.Omega.{arith}
 use lib.Dec.{eqb, ltb}
-use lib.ListN.{length, take, drop, length-take, length-drop}
-use borrow.Author.Tests.{eqb-true, ltb-true, ltb-false, lt-ltb, le-ltb}
+use lib.ListN.{length, length-take, length-drop}
+use borrow.Author.Tests.{ltb-false, lt-ltb, le-ltb}
 use Rattle.rules.specs.Ceilings.{blobCeiling}
-use Rattle.rules.specs.Octets.{Bytes, if_then_else_, wordAt, longAt}
-use Rattle.rules.specs.Outcome.{Outcome, Verdict, gives, refuses, passes, Test, first}
+use Rattle.rules.specs.Octets.{Bytes, longAt}
+use Rattle.rules.specs.Outcome.{passes, first}
 use Rattle.rules.specs.Reservations.{Entry}
-use Rattle.rules.specs.Blob.{Header, headerIn, entriesFrom, entriesIn, missing, misplaced, headerJudged, Block, blockIn}
-use Rattle.rules.specs.Laws.Tests.{by-test, by-le, never, or-false}
+use Rattle.rules.specs.Blob.{Header, headerIn, entriesFrom, entriesIn, missing, misplaced, headerJudged, blockIn}
+use Rattle.rules.specs.Laws.Tests.{by-le, never, or-false}
 use Rattle.rules.specs.Laws.Octets.{word-past}
 
 -- ---- reservations
@@ -28,27 +28,42 @@ unfolding longAt
 zero-past b at h =
     rw (word-past b at h, word-past b (at + 4) (omega arith), word-past b (at + 8) (omega arith), word-past b (at + 8 + 4) (omega arith))
 
+-- one turn: no room for a pair, the pair that closes, another
+module _ (b : Bytes) (fuel at limit : ℕ) where
+  pub entries-cut : ltb limit (at + 16) ≡ true → entriesFrom (suc fuel) b at limit ≡ none
+  unfolding entriesFrom
+  entries-cut e = rw (e, entriesFrom)
+
+  pub entries-last : ltb limit (at + 16) ≡ false → zeroPair b at ≡ true
+      → entriesFrom (suc fuel) b at limit ≡ some []
+  unfolding entriesFrom
+  entries-last e f = rw (e, f, entriesFrom)
+
+  pub entries-more : ltb limit (at + 16) ≡ false → zeroPair b at ≡ false
+      → entriesFrom (suc fuel) b at limit
+      ≡ Option·map (λ (es : List Entry). record { address = longAt b at; size = longAt b (at + 8) } ∷ es) (entriesFrom fuel b (at + 16) limit)
+  unfolding entriesFrom
+  entries-more e f = rw (e, f, entriesFrom)
+
 -- no room for a pair
 pub entries-none : (fuel : ℕ) (b : Bytes) (at limit : ℕ) → limit < at + 16 → missing (entriesFrom fuel b at limit) ≡ true
 unfolding entriesFrom
 entries-none zero b at limit h = refl
-entries-none (suc fuel) b at limit h = rw (lt-ltb limit (at + 16) h, entriesFrom)
+entries-none (suc fuel) b at limit h = ap missing (entries-cut b fuel at limit (lt-ltb limit (at + 16) h))
 
 -- the pair that closes
 pub entries-here : (fuel : ℕ) (b : Bytes) (at limit : ℕ) → 0 < fuel → at + 16 ≤ limit → zeroPair b at ≡ true → missing (entriesFrom fuel b at limit) ≡ false
-unfolding entriesFrom
 entries-here zero b at limit p h e = absurd (let z : ⊥ = omega arith in z)
-entries-here (suc fuel) b at limit p h e = rw (le-ltb limit (at + 16) h, e, entriesFrom)
+entries-here (suc fuel) b at limit p h e = ap missing (entries-last b fuel at limit (le-ltb limit (at + 16) h) e)
 
 missing-map : {A B : Type 0} (f : A → B) (o : Option A) → missing (Option·map f o) ≡ missing o
 missing-map f none = refl
 missing-map f (some a) = refl
 
 -- another
-pub entries-more : (fuel : ℕ) (b : Bytes) (at limit : ℕ) → at + 16 ≤ limit → zeroPair b at ≡ false
+entries-on : (fuel : ℕ) (b : Bytes) (at limit : ℕ) → at + 16 ≤ limit → zeroPair b at ≡ false
     → missing (entriesFrom (suc fuel) b at limit) ≡ missing (entriesFrom fuel b (at + 16) limit)
-unfolding entriesFrom
-entries-more fuel b at limit h e = rw (le-ltb limit (at + 16) h, e, entriesFrom) (missing-map _ (entriesFrom fuel b (at + 16) limit))
+entries-on fuel b at limit h e = ap missing (entries-more b fuel at limit (le-ltb limit (at + 16) h) e) ∙ missing-map _ (entriesFrom fuel b (at + 16) limit)
 
 -- a loop over them: the rest, from here on, is the whole
 pub record Searched (b : Bytes) (from limit at : ℕ) : Type 0 where
@@ -68,7 +83,7 @@ search-on b from limit at i h e = go (i .fuel) (i .left) (i .enough) (i .same)
 
     go : (f : ℕ) → 0 < f → length b < f + at → missing (entriesFrom f b at limit) ≡ missing (entriesFrom (suc (length b)) b from limit) → Searched b from limit (at + 16)
     go zero p q r = absurd (let z : ⊥ = omega arith in z)
-    go (suc f) p q r = record { fuel = f; left = omega (arith, inside); enough = omega arith; same = sym (entries-more f b at limit h e) ∙ r }
+    go (suc f) p q r = record { fuel = f; left = omega (arith, inside); enough = omega arith; same = sym (entries-on f b at limit h e) ∙ r }
 
 -- ---- what a header that passes says
 
@@ -80,7 +95,7 @@ pub record Inside (b : Bytes) : Type 0 where
   pub last : headerIn b .strings + headerIn b .stringsSize ≤ headerIn b .total
 
 -- what five tests in order, and seven at once, say where they pass
-five-passed : (a b c d e : Bool)
+pub five-passed : (a b c d e : Bool)
     → first
     (record { fails = a; number = 1; place = 0 }
     ∷ record { fails = b; number = 2; place = 0 }

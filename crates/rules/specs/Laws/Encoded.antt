@@ -1,13 +1,13 @@
 -- What is written reads: the words, the tokens, the names and the strings.
 use mathlib.Core.Path.{_≡_, refl, sym, ap, _∙_}
 use mathlib.Core.Bool.{Bool, true, false, _&&_}
-use mathlib.Core.List.{[], _∷_, _++_, append-assoc, append-nil, List·Memᴰ·head, List·Memᴰ·tail}
+use mathlib.Core.List.{[], _∷_, _++_, append-assoc, append-nil}
 use Prim.Native.Nat.{ℕ, suc, _+_, _-_, _≤_, _<_}
 use native.Mathlib.Omega.{arith}
 use lib.ListN.{length, take, drop, length-append}
 use lib.Seq.{take-at, drop-at, drop-drop, drop-append-le}
 use lib.Dec.{eqb, ltb}
-use borrow.Author.Tests.{ne-eqb, le-leb, lt-ltb, ltb-true, ltb-false}
+use borrow.Author.Tests.{le-leb, lt-ltb, ltb-true, ltb-false}
 use Rattle.rules.specs.Octets.{Bytes, wordAt, longAt, be32, be64, zeros, padded, filled, part, nulIn, closed, begins}
 use Rattle.rules.specs.Names.{propertyNameReads}
 use Rattle.rules.specs.Tokens.{beginAt, propAt, tagged, tokenAt}
@@ -17,7 +17,9 @@ use Rattle.rules.specs.declared.Token.the-variants.{Item, End}
 use Rattle.rules.specs.declared.Kind.the-variants.{Begin, EndNode, Prop}
 use Rattle.rules.specs.Listing.{_∈_}
 use Rattle.rules.specs.Laws.Tests.{by-test, and-true}
-use Rattle.rules.specs.Laws.Octets.{length-be64, part-between, word-be32, long-be64, length-filled, length-be32, begins-split}
+use Rattle.rules.specs.Laws.Octets.{length-be64, part-between, word-be32, long-be64, length-filled, length-be32, begins-split, nul-closed}
+use Rattle.rules.specs.Laws.Writer.{length-closed, offset-le}
+use Rattle.rules.specs.Laws.Lists.{mem-at}
 
 -- ---- words
 
@@ -41,9 +43,7 @@ long-at p r n at e h = long-be64 (p ++ (be64 n ++ r)) at n h (rw (e, length-be64
 -- ---- names closed by NUL
 
 pub nul-name : (name t : Bytes) → (0 ∈ name → ⊥) → nulIn (name ++ (0 ∷ t)) ≡ length name
-unfolding nulIn
-nul-name [] t h = refl
-nul-name (x ∷ xs) t h = rw (ne-eqb x 0 (λ e. h (List·Memᴰ·head (sym e))), nulIn) (ap suc (nul-name xs t (λ m. h (List·Memᴰ·tail m))))
+nul-name name t h = nul-closed name t (λ i k e. h (rw e at (mem-at name i 0 k)))
 
 -- ---- padding
 
@@ -52,9 +52,6 @@ unfolding filled
 filled-front bs r =
     let z : Bytes = zeros (padded (length bs) - length bs) in
     ap (take (length bs)) (append-assoc bs z r) ∙ take-at bs (z ++ r) (length bs) refl
-
-length-closed : (name : Bytes) → length (closed name) ≡ length name + 1
-length-closed name = length-append name (0 ∷ [])
 
 closed-filled : (name r : Bytes) → (t : Bytes) × (filled (closed name) ++ r ≡ name ++ (0 ∷ t))
 unfolding filled
@@ -76,19 +73,6 @@ prop-is : (s : Bytes) (b len off : ℕ) → wordAt s b ≡ len → wordAt s (b +
     → propAt s b ≡ Item (Prop len off (b + 8)) (b + 8 + padded len)
 unfolding propAt
 prop-is s b len off e o h = rw (e, o, le-leb (b + 8) (length s) (omega arith), le-leb (b + 8 + padded len) (length s) h)
-
-pub length-begin : (name : Bytes) → length (beginBytes name) ≡ 4 + padded (length name + 1)
-unfolding beginBytes
-length-begin name = rw (length-append, length-be32 1, length-filled (closed name), length-closed name)
-
-pub length-end : length endBytes ≡ 4
-unfolding endBytes
-length-end = length-be32 2
-
-pub length-property : (offset : ℕ) (value : Bytes) → length (propertyBytes offset value) ≡ 12 + padded (length value)
-unfolding propertyBytes
-length-property offset value =
-    rw (length-append, length-append, length-append, length-be32 3, length-be32 (length value), length-be32 offset, length-filled value) (omega arith)
 
 -- END_NODE, and the END of the structure, behind p
 pub end-written : (p r : Bytes) (at : ℕ) → length p ≡ at → tokenAt (p ++ (endBytes ++ r)) at ≡ Item EndNode (at + 4)
@@ -218,13 +202,6 @@ module _ (name : Bytes) where
   unfolding nameFrom
   from-past start b bs e = rw (e, nameFrom)
 
-  pub offset-le : (start : Bool) (s : Bytes) → nameFrom start name s ≤ length s
-  unfolding nameFrom
-  offset-le start [] = omega arith
-  offset-le start (b ∷ bs) = by-test (start && begins (closed name) (b ∷ bs))
-      (λ e. omega (arith, from-here start b bs e))
-      (λ e. omega (arith, from-past start b bs e, offset-le (eqb b 0) bs))
-
   found-begins : (start : Bool) (s : Bytes) → nameFrom start name s < length s → begins (closed name) (drop (nameFrom start name s) s) ≡ true
   unfolding nameFrom
   found-begins start [] h = absurd (omega arith)
@@ -246,17 +223,24 @@ module _ (name : Bytes) where
             ∙ append-assoc (closed name) y t
             ∙ append-assoc name (0 ∷ []) (y ++ t)),
       ))
-      (λ e. let q : length s ≡ nameOffset name s = omega (arith, ltb-false (nameOffset name s) (length s) e, offset-le true s) in
+      (λ e. let q : length s ≡ nameOffset name s = omega (arith, ltb-false (nameOffset name s) (length s) e, offset-le name s) in
       (t, rw (e, append-assoc s (closed name) t) (drop-at s (closed name ++ t) (nameOffset name s) q ∙ append-assoc name (0 ∷ []) t)))
 
--- a name that stands closed at an offset is read there
+-- a name that stands at an offset and ends at its NUL is read there
+module _ (strings name z : Bytes) (offset : ℕ) (stands : drop offset strings ≡ name ++ (0 ∷ z)) (ends : nulIn (name ++ (0 ∷ z)) ≡ length name) where
+  pub string-ends : stringAt strings offset ≡ name
+  unfolding stringAt
+  string-ends = rw (stands, ends) (take-at name (0 ∷ z) (length name) refl)
+
+  pub reads-ends : propertyReads strings offset ≡ propertyNameReads name
+  unfolding propertyReads
+  reads-ends =
+      let l : length (name ++ (0 ∷ z)) ≡ length name + suc (length z) = length-append name (0 ∷ z) in
+      rw (string-ends, stands, ends, lt-ltb (length name) (length (name ++ (0 ∷ z))) (omega arith))
+
 module _ (strings name z : Bytes) (offset : ℕ) (stands : drop offset strings ≡ name ++ (0 ∷ z)) (plain : 0 ∈ name → ⊥) where
   pub string-stands : stringAt strings offset ≡ name
-  unfolding stringAt
-  string-stands = rw (stands, nul-name name z plain) (take-at name (0 ∷ z) (length name) refl)
+  string-stands = string-ends strings name z offset stands (nul-name name z plain)
 
   pub string-reads : propertyReads strings offset ≡ propertyNameReads name
-  unfolding propertyReads
-  string-reads =
-      let l : length (name ++ (0 ∷ z)) ≡ length name + suc (length z) = length-append name (0 ∷ z) in
-      rw (string-stands, stands, nul-name name z plain, lt-ltb (length name) (length (name ++ (0 ∷ z))) (omega arith))
+  string-reads = reads-ends strings name z offset stands (nul-name name z plain)

@@ -1,8 +1,8 @@
 -- The laws of the walk over tokens and of the events that they say: a step by how many nodes are open, and one turn for each token.
-use mathlib.Core.Path.{_≡_, refl, sym, ap, _∙_}
-use mathlib.Core.Bool.{Bool, true, false, not}
+use mathlib.Core.Path.{_≡_, refl, ap}
+use mathlib.Core.Bool.{Bool, true, not}
 use mathlib.Core.List.{List, [], _∷_}
-use Prim.Native.Nat.{ℕ, suc, _+_, _≤_, _<_}
+use Prim.Native.Nat.{ℕ, _+_, _≤_, _<_}
 use native.Mathlib.Omega.{arith}
 use lib.Dec.{eqb, leb}
 use lib.ListN.{length}
@@ -11,11 +11,10 @@ use Rattle.rules.specs.Octets.{Bytes, if_then_else_}
 use Rattle.rules.specs.Names.{nodeNameReads}
 use Rattle.rules.specs.Outcome.{Verdict}
 use Rattle.rules.specs.Blob.{Block}
-use Rattle.rules.specs.Tokens.{Placed, tokenAt}
-use Rattle.rules.specs.Events.{Walk, atStart, Step, stop, done, go, opened, opening, closing, holding, ending, after, onToken, judge, shapeJudged, Event, saying, eventsOf, eventsIn}
+use Rattle.rules.specs.Tokens.{tokenAt}
+use Rattle.rules.specs.Events.{Walk, atStart, stop, done, go, opened, opening, closing, holding, ending, after, onToken, judge, shapeJudged, Event, saying, eventsOf, eventsIn}
 use Rattle.rules.specs.Tree.{rest}
 use Rattle.rules.specs.Laws.Tokens.{tokensAt, tokens-all, tokens-item, tokens-end, tokens-cut}
-use Rattle.rules.specs.declared.Token.{Token}
 use Rattle.rules.specs.declared.Token.the-variants.{Item, End, Cut}
 use Rattle.rules.specs.declared.Kind.{Kind}
 

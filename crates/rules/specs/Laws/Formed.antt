@@ -24,7 +24,7 @@ use Rattle.rules.specs.declared.Kind.the-variants.{Begin, EndNode, Prop,
 use Rattle.rules.specs.Listing.{_∈_}
 use Rattle.rules.specs.Laws.Tests.{by-test, by-le, never, or-left, or-right, or-false, true-and}
 use Rattle.rules.specs.Laws.Octets.{same-eq, eq-same}
-use Rattle.rules.specs.Laws.Lists.{Distinct, none as alone, more, numbers-mem}
+use Rattle.rules.specs.Laws.Lists.{Distinct, none as alone, more, numbers-mem, small-more}
 use Rattle.rules.specs.Laws.References.{by-option}
 use Rattle.rules.specs.Laws.Verdicts.{gives-refuses, then-passes, one-passes}
 use Rattle.rules.specs.Laws.Shape.{reads-named, reads-plain, Opens, opening-passes, closing-passes, holding-passes}
@@ -44,7 +44,7 @@ pub record Sound (i : ℕ) (n : Node) : Type 0 where
 abbrev pub SoundFrom : ℕ → Tree → Type 0
 SoundFrom next t = (j : ℕ) → j < length t → Sound (next + j) (node t j)
 
-empty-name : (s : Bytes) → length s ≡ 0 → s ≡ []
+pub empty-name : (s : Bytes) → length s ≡ 0 → s ≡ []
 empty-name [] e = refl
 empty-name (x ∷ s) e = absurd (omega arith)
 
@@ -69,9 +69,6 @@ opened-sound (i ∷ is) count at name es small o h zero l =
 opened-sound stack count at name es small o h (suc j) l =
     let e : suc count + j ≡ count + suc j = omega arith in
     subst (λ (k : ℕ). Sound k (node (nodesFrom (count ∷ stack) (suc count) es) j)) e (h j (omega arith))
-
-small-more : (stack : List ℕ) (count : ℕ) → ((x : ℕ) → x ∈ stack → x < count) → (x : ℕ) → x ∈ count ∷ stack → x < suc count
-small-more stack count h x m = elim (List·Memᴰ·cases-cons m) [ inl e ↦ omega arith | inr k ↦ omega (arith, h x k) ]
 
 module _ (b : Block) where
   -- a walk that passes leaves sound nodes

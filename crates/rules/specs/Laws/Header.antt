@@ -1,7 +1,7 @@
 -- The laws of the header and the reservations: what a header that passes says, and that one that was written passes.
 use mathlib.Core.Path.{_≡_, refl, sym, ap, _∙_}
 use mathlib.Core.Bool.{Bool, true, false, not, _&&_, _||_}
-use mathlib.Core.Option.{none, some, Option·map}
+use mathlib.Core.Option.{some}
 use mathlib.Core.List.{List, [], _∷_, _++_, append-assoc}
 use Prim.Native.Nat.{ℕ, zero, suc, _+_, _*_, _%_, _^_, _≤_, _<_}
 use native.Mathlib.Omega.{arith}
@@ -11,33 +11,17 @@ use lib.Dec.{eqb, leb, ltb}
 use borrow.Author.Tests.{ltb-false, leb-false, eqb-false, le-ltb, ne-eqb}
 use Rattle.rules.specs.Ceilings.{blobCeiling}
 use Rattle.rules.specs.Octets.{Bytes, wordAt, longAt, be32, be64, words32}
-use Rattle.rules.specs.Outcome.{passes, first}
+use Rattle.rules.specs.Outcome.{passes}
 use Rattle.rules.specs.Reservations.{Entry, invalid, anyInvalid, entryBytes, block}
 use Rattle.rules.specs.Blob.{Header, headerIn, entriesFrom, entriesIn, missing, misplaced, headerJudged}
 use Rattle.rules.specs.Writer.{headerBytes}
-use Rattle.rules.specs.Laws.Tests.{by-test, never, or-false}
-use Rattle.rules.specs.Laws.Verdicts.{gives-refuses}
-use Rattle.rules.specs.Laws.Octets.{length-words32, length-be32, length-be64}
+use Rattle.rules.specs.Laws.Tests.{by-test, never, or-false, and-none}
+use Rattle.rules.specs.Laws.Octets.{length-be32, length-be64}
 use Rattle.rules.specs.Laws.Encoded.{word-at, long-at}
+use Rattle.rules.specs.Laws.Writer.{length-words32}
+use Rattle.rules.specs.Laws.Blob.{entries-cut, entries-last, entries-more, five-passed}
 
 -- ---- what a header that passes says
-
--- the third and the last of five tests
-five-pass : (a b c d e : Bool)
-    → first
-    (record { fails = a; number = 1; place = 0 }
-    ∷ record { fails = b; number = 2; place = 0 }
-    ∷ record { fails = c; number = 3; place = 0 }
-    ∷ record { fails = d; number = 4; place = 0 }
-    ∷ record { fails = e; number = 5; place = 0 }
-    ∷ []) ≡ passes
-    → (c ≡ false) × (e ≡ false)
-five-pass true b c d e h = gives-refuses tt 1 0 h
-five-pass false true c d e h = gives-refuses tt 2 0 h
-five-pass false false true d e h = gives-refuses tt 3 0 h
-five-pass false false false true e h = gives-refuses tt 4 0 h
-five-pass false false false false true h = gives-refuses tt 5 0 h
-five-pass false false false false false h = (refl, refl)
 
 pub record Laid (b : Bytes) : Type 0 where
   pub reservations : 40 ≤ headerIn b .reservations
@@ -47,24 +31,9 @@ pub record Laid (b : Bytes) : Type 0 where
   pub lent : headerIn b .total ≤ length b
 
 module _ (b : Bytes) (fuel at limit : ℕ) where
-  pub entries-cut : ltb limit (at + 16) ≡ true → entriesFrom (suc fuel) b at limit ≡ none
-  unfolding entriesFrom
-  entries-cut e = rw (e, entriesFrom)
-
-  pub entries-last : ltb limit (at + 16) ≡ false → (eqb (longAt b at) 0 && eqb (longAt b (at + 8)) 0) ≡ true
-      → entriesFrom (suc fuel) b at limit ≡ some []
-  unfolding entriesFrom
-  entries-last e f = rw (e, f, entriesFrom)
-
-  pub entries-more : ltb limit (at + 16) ≡ false → (eqb (longAt b at) 0 && eqb (longAt b (at + 8)) 0) ≡ false
-      → entriesFrom (suc fuel) b at limit
-      ≡ Option·map (λ (es : List Entry). record { address = longAt b at; size = longAt b (at + 8) } ∷ es) (entriesFrom fuel b (at + 16) limit)
-  unfolding entriesFrom
-  entries-more e f = rw (e, f, entriesFrom)
-
   entries-fit : missing (entriesFrom (suc fuel) b at limit) ≡ false → at + 16 ≤ limit
   entries-fit h = by-test (ltb limit (at + 16))
-      (λ e. never true refl (rw (entries-cut e) at h))
+      (λ e. never true refl (rw (entries-cut b fuel at limit e) at h))
       (λ e. ltb-false limit (at + 16) e)
 
 pub header-laid : (b : Bytes) → headerJudged b ≡ passes → Laid b
@@ -73,15 +42,15 @@ header-laid b h =
     let v : Header = headerIn b in
     let large : Bool = ltb (v .total) 40 || ltb (length b) (v .total) || ltb blobCeiling (v .total) in
     let f =
-    five-pass (ltb (length b) 40) (not (eqb (v .magic) 0xd00dfeed)) large (not (eqb (v .version) 17) || not (eqb (v .compatible) 16))
+    five-passed (ltb (length b) 40) (not (eqb (v .magic) 0xd00dfeed)) large (not (eqb (v .version) 17) || not (eqb (v .compatible) 16))
     (misplaced b) h in
-    let m₁ = or-false _ (ltb (v .total) (v .strings + v .stringsSize)) (f .1) in
+    let m₁ = or-false _ (ltb (v .total) (v .strings + v .stringsSize)) (f .2) in
     let m₂ = or-false _ (ltb (v .strings) (v .structure + v .structureSize)) (m₁ .0) in
     let m₃ = or-false _ (missing (entriesIn b)) (m₂ .0) in
     let m₄ = or-false _ (not (eqb (v .structureSize % 4) 0)) (m₃ .0) in
     let m₅ = or-false _ (not (eqb (v .structure % 4) 0)) (m₄ .0) in
     let m₆ = or-false _ (not (eqb (v .reservations % 8) 0)) (m₅ .0) in
-    let n₁ = or-false (ltb (v .total) 40 || ltb (length b) (v .total)) (ltb blobCeiling (v .total)) (f .0) in
+    let n₁ = or-false (ltb (v .total) 40 || ltb (length b) (v .total)) (ltb blobCeiling (v .total)) (f .1) in
     let n₂ = or-false (ltb (v .total) 40) (ltb (length b) (v .total)) (n₁ .0) in
     record {
       reservations = ltb-false (v .reservations) 40 (m₆ .0);
@@ -184,15 +153,11 @@ entries-read (w ∷ rs) b p r (suc fuel) at limit e l f h v =
     let x : longAt b at ≡ w .address = ap (λ (s : Bytes). longAt s at) e₁ ∙ long-at p (c ++ rest) (w .address) at l (d .1) in
     let y : longAt b (at + 8) ≡ w .size =
     ap (λ (s : Bytes). longAt s (at + 8)) e₁ ∙ long-next p a rest (w .size) at 8 l (length-be64 (w .address)) (d .2) in
-    let n : (eqb (longAt b at) 0 && eqb (longAt b (at + 8)) 0) ≡ false = rw (y, ne-eqb (w .size) 0 (d .0)) (and-nought (eqb (longAt b at) 0)) in
+    let n : (eqb (longAt b at) 0 && eqb (longAt b (at + 8)) 0) ≡ false = rw (y, ne-eqb (w .size) 0 (d .0)) (and-none (eqb (longAt b at) 0)) in
     entries-more b fuel at limit (le-ltb limit (at + 16) (omega arith)) n
     ∙ rw (entries-read rs b (p ++ (a ++ c)) r fuel (at + 16) limit e₂ m (omega arith) (omega arith) (k .1), x, y)
-  where
-    and-nought : (t : Bool) → (t && false) ≡ false
-    and-nought true = refl
-    and-nought false = refl
 
-length-entries : (rs : List Entry) → length (entryBytes rs) ≡ 16 * length rs
+pub length-entries : (rs : List Entry) → length (entryBytes rs) ≡ 16 * length rs
 unfolding entryBytes
 length-entries [] = refl
 length-entries (e ∷ rs) =

@@ -1,22 +1,22 @@
 -- A work space that keeps the node table of an accepted blob, whatever is written behind it: what the functions over the table may
 -- count on, and that writing behind the table takes nothing of it away.
 use mathlib.Core.Path.{_≡_, refl, sym, ap, _∙_}
-use mathlib.Core.List.{List}
+use mathlib.Core.List.{List, [], _∷_}
 use Prim.Native.Nat.{ℕ, zero, suc, _+_, _*_, _≤_, _<_}
 use native.Mathlib.Omega.{arith}
-use lib.ListN.{length, getD, length-take, length-drop}
-use lib.Seq.{ext-getD, getD-take}
+use lib.ListN.{length, getD, drop, length-take, length-drop}
+use lib.Seq.{ext-getD, getD-take, getD-drop}
 use borrow.Author.Tests.{le-ltb}
 use Rattle.rules.specs.Ceilings.{blobCeiling, nodeCeiling, nodeWords, workWords}
 use Rattle.rules.specs.Octets.{Bytes, put, lay}
 use Rattle.rules.specs.Outcome.{passes}
 use Rattle.rules.specs.Blob.{Block, headerJudged, blockIn}
-use Rattle.rules.specs.Tree.{Tree, nowhere, numbersFrom}
+use Rattle.rules.specs.Tree.{Tree, node, nowhere, numbersFrom}
 use Rattle.rules.specs.Reader.{treeRead, blobJudged, rowsOf, spaceOf, readWork}
 use Rattle.rules.specs.References.{lookup}
 use Rattle.rules.specs.Space.{tableWords, marksAt, listAt, stackAt, namesAt}
 use Rattle.rules.specs.Laws.Tests.{by-le}
-use Rattle.rules.specs.Laws.Octets.{put-before, length-lay, lay-past}
+use Rattle.rules.specs.Laws.Octets.{put-before, length-lay, lay-past, lay-one-other}
 use Rattle.rules.specs.Laws.Blob.{header-inside}
 use Rattle.rules.specs.Laws.Reader.{space-length, table-fits}
 use Rattle.rules.specs.Laws.Paths.{Formed}
@@ -57,6 +57,7 @@ row-inside count i k h g l = omega arith
 pub record Kept (b : Block) (ws : List ℕ) (count : ℕ) : Type 0 where
   pub formed : Formed (treeIn b ws count)
   pub look : (w : ℕ) → lookIn ws count w ≡ lookup (treeIn b ws count) w
+  pub top : node (treeIn b ws count) 0 .parent ≡ 0
   pub few : count ≤ nodeCeiling
   pub some : 0 < count
   pub small : length (b .structure) ≤ blobCeiling
@@ -95,6 +96,7 @@ module _ (b : Block) (ws vs : List ℕ) (count : ℕ) (few : count ≤ nodeCeili
   kept-alike l k = record {
     formed = rw tree-alike (k .formed);
     look = λ w. rw (tree-alike, look-alike w) (k .look w);
+    top = rw tree-alike (k .top);
     few = few;
     some = k .some;
     small = k .small;
@@ -115,6 +117,50 @@ lay-alike ws at xs h i l = lay-before ws at xs 0 i (omega arith)
 
 pub kept-lay : (b : Block) (ws : List ℕ) (count at : ℕ) (xs : List ℕ) → tableWords ≤ at → Kept b ws count → Kept b (lay ws at xs) count
 kept-lay b ws count at xs h k = kept-alike b ws (lay ws at xs) count (k .few) (lay-alike ws at xs h) (length-lay ws at xs) k
+
+-- ---- only the words from lo up to hi may differ
+
+pub record Only (lo hi : ℕ) (ws vs : List ℕ) : Type 0 where
+  pub size : length vs ≡ length ws
+  pub before : (i : ℕ) → i < lo → getD vs i 0 ≡ getD ws i 0
+  pub behind : (i : ℕ) → hi ≤ i → getD vs i 0 ≡ getD ws i 0
+
+module _ {lo hi : ℕ} where
+  pub only-none : (ws : List ℕ) → Only lo hi ws ws
+  only-none ws = record { size = refl; before = λ i h. refl; behind = λ i h. refl }
+
+  pub only-then : {ws vs us : List ℕ} → Only lo hi ws vs → Only lo hi vs us → Only lo hi ws us
+  only-then p q = record {
+    size = q .size ∙ p .size;
+    before = λ i h. q .before i h ∙ p .before i h;
+    behind = λ i h. q .behind i h ∙ p .behind i h;
+  }
+
+  pub only-wide : {a z : ℕ} {ws vs : List ℕ} → lo ≤ a → z ≤ hi → Only a z ws vs → Only lo hi ws vs
+  only-wide f g p = record { size = p .size; before = λ i h. p .before i (omega arith); behind = λ i h. p .behind i (omega arith) }
+
+  pub only-one : (ws : List ℕ) (at x : ℕ) → lo ≤ at → at < hi → Only lo hi ws (lay ws at (x ∷ []))
+  only-one ws at x f g = record {
+    size = length-lay ws at (x ∷ []);
+    before = λ i h. lay-one-other ws at x 0 i (λ e. omega arith);
+    behind = λ i h. lay-one-other ws at x 0 i (λ e. omega arith);
+  }
+
+  -- the table stays
+  pub only-alike : {ws vs : List ℕ} → tableWords ≤ lo → Only lo hi ws vs → Alike ws vs
+  only-alike h p i l = p .before i (omega arith)
+
+  pub only-kept : (b : Block) {ws vs : List ℕ} (count : ℕ) → tableWords ≤ lo → Only lo hi ws vs → Kept b ws count → Kept b vs count
+  only-kept b {ws} {vs} count h p k = kept-alike b ws vs count (k .few) (only-alike h p) (p .size) k
+
+  pub only-tree : (b : Block) {ws vs : List ℕ} (count : ℕ) → tableWords ≤ lo → count ≤ nodeCeiling → Only lo hi ws vs → treeIn b vs count ≡ treeIn b ws count
+  only-tree b {ws} {vs} count h f p = tree-alike b ws vs count f (only-alike h p)
+
+  -- and what stands behind
+  pub only-drop : {ws vs : List ℕ} (n : ℕ) → hi ≤ n → Only lo hi ws vs → drop n vs ≡ drop n ws
+  only-drop {ws} {vs} n h p =
+      ext-getD 0 (drop n vs) (drop n ws) (simp length-drop (omega (arith, p .size)))
+      (λ i l. getD-drop n vs i 0 ∙ p .behind (n + i) (omega arith) ∙ sym (getD-drop n ws i 0))
 
 -- ---- the table of an accepted blob
 
@@ -137,6 +183,7 @@ pub kept-read : (host : Bytes) (work : List ℕ) → blobJudged host ≡ passes 
 kept-read host work h l = record {
   formed = formed-in host work h l;
   look = λ w. look-read host work h l w ∙ ap (λ (t : Tree). lookup t w) (sym (tree-read host work h l));
+  top = ap (λ (t : Tree). node t 0 .parent) (tree-read host work h l) ∙ read-table host h .rooted .parent;
   few = read-table host h .few;
   some = read-table host h .rooted .some;
   small = structure-small host (accepted host h .header);

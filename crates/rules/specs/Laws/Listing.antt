@@ -39,7 +39,7 @@ pub record Gathered (f : ℕ → List ℕ) (noted cs out : List ℕ) : Type 0 wh
   pub apart : (x : ℕ) → x ∈ out → x ∈ noted → ⊥
   pub once : Distinct out
 
-gathered : (f : ℕ → List ℕ) (noted cs : List ℕ) → Gathered f noted cs (gather f noted cs)
+pub gathered : (f : ℕ → List ℕ) (noted cs : List ℕ) → Gathered f noted cs (gather f noted cs)
 unfolding gather
 gathered f noted [] =
     record {
@@ -79,12 +79,12 @@ gathered f noted (c ∷ cs) = go (gathered f (new ++ noted) cs)
       once = distinct-append new out (n .once) (g .once) (λ x m k. g .apart x k (Memᴰ·append-left noted m));
     }
 
-ascending-distinct : {key : ℕ → Bytes} {l : List ℕ} → Ascending key l → Distinct l
+pub ascending-distinct : {key : ℕ → Bytes} {l : List ℕ} → Ascending key l → Distinct l
 ascending-distinct empty = none
 ascending-distinct {key} (put {x = x} f a) = more (λ m. before-irrefl (key x) (f x m)) (ascending-distinct a)
 
 module _ (r : Rules) (t : Tree) (w : Formed t) (conf : List ℕ) (distinct : Distinct conf) (small : (x : ℕ) → x ∈ conf → x < length t) where
-  keyed-of : {l : List ℕ} → Distinct l → ((x : ℕ) → x ∈ l → x < length t) → Keyed (path t) l
+  pub keyed-of : {l : List ℕ} → Distinct l → ((x : ℕ) → x ∈ l → x < length t) → Keyed (path t) l
   keyed-of none h = unkeyed
   keyed-of (more {x = x} n d) h =
       keyed (λ y m e. n (Memᴰ·cast (path-known t w x y (h x (List·Memᴰ·head refl)) (h y (List·Memᴰ·tail m)) e) m))
@@ -93,11 +93,11 @@ module _ (r : Rules) (t : Tree) (w : Formed t) (conf : List ℕ) (distinct : Dis
   g : Gathered (nodesBelow (frame t)) conf conf (gather (nodesBelow (frame t)) conf conf)
   g = gathered (nodesBelow (frame t)) conf conf
 
-  given-small : (x : ℕ) → x ∈ givenNodes (frame t) conf → x < length t
+  pub given-small : (x : ℕ) → x ∈ givenNodes (frame t) conf → x < length t
   unfolding givenNodes
   given-small x m = elim (List·Memᴰ·append-cases conf m) [ inl k ↦ small x k | inr k ↦ let c = g .among x k in below-of t (c .0) x (c .2) .0 ]
 
-  given-distinct : Distinct (givenNodes (frame t) conf)
+  pub given-distinct : Distinct (givenNodes (frame t) conf)
   unfolding givenNodes
   given-distinct = distinct-append conf (gather (nodesBelow (frame t)) conf conf) distinct (g .once) (λ x m k. g .apart x k m)
 
@@ -110,7 +110,7 @@ module _ (r : Rules) (t : Tree) (w : Formed t) (conf : List ℕ) (distinct : Dis
   unfolding starts
   starts-of x m = sort-of (path t) (givenNodes (frame t) conf) x m
 
-  of-starts : (x : ℕ) → x ∈ givenNodes (frame t) conf → x ∈ starts (frame t) conf
+  pub of-starts : (x : ℕ) → x ∈ givenNodes (frame t) conf → x ∈ starts (frame t) conf
   unfolding starts
   of-starts x m = of-sort (path t) (givenNodes (frame t) conf) x m
 
@@ -121,7 +121,7 @@ module _ (r : Rules) (t : Tree) (w : Formed t) (conf : List ℕ) (distinct : Dis
     | inr k ↦ let c = g .among x k in let b = below-of t (c .0) x (c .2) in under (c .1) (b .0) (b .1)
   ]
 
-  under-given : (p x : ℕ) → p ∈ conf → x < length t → below t p x ≡ true → x ∈ givenNodes (frame t) conf
+  pub under-given : (p x : ℕ) → p ∈ conf → x < length t → below t p x ≡ true → x ∈ givenNodes (frame t) conf
   unfolding givenNodes
   under-given p x m h b =
       elim (g .all x p m (of-below t p x h b)) [
@@ -129,7 +129,7 @@ module _ (r : Rules) (t : Tree) (w : Formed t) (conf : List ℕ) (distinct : Dis
         | inr k ↦ Memᴰ·append-left (gather (nodesBelow (frame t)) conf conf) k
       ]
 
-  conf-given : (x : ℕ) → x ∈ conf → x ∈ givenNodes (frame t) conf
+  pub conf-given : (x : ℕ) → x ∈ conf → x ∈ givenNodes (frame t) conf
   unfolding givenNodes
   conf-given x m = Memᴰ·append-left (gather (nodesBelow (frame t)) conf conf) m
 

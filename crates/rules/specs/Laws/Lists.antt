@@ -58,6 +58,10 @@ unfolding every
 every-mem f (List·Memᴰ·head {x = y} {xs = ys} e) h = rw e (and-true (f y) (every f ys) h .0)
 every-mem f (List·Memᴰ·tail {x = y} {xs = ys} m) h = every-mem f m (and-true (f y) (every f ys) h .1)
 
+-- numbers below n, and n itself, are below the next
+pub small-more : (l : List ℕ) (n : ℕ) → ((x : ℕ) → x ∈ l → x < n) → (x : ℕ) → x ∈ n ∷ l → x < suc n
+small-more l n h x m = elim (List·Memᴰ·cases-cons m) [ inl e ↦ omega arith | inr k ↦ omega (arith, h x k) ]
+
 -- the element at a place
 pub mem-at {ℓ} : {A : Type ℓ} (l : List A) (i : ℕ) (z : A) → i < length l → getD l i z ∈ l
 mem-at [] i z h = absurd (omega arith)

@@ -1,7 +1,7 @@
 -- Events that are the same but for their places: the same is said without places, their nodes have the same names and properties, and
 -- where one of two such trees passes 10 to 12 the other does.
 use mathlib.Core.Path.{_≡_, refl, sym, ap, _∙_}
-use mathlib.Core.Bool.{true, false}
+use mathlib.Core.Bool.{false}
 use mathlib.Core.Option.{Option, none, some}
 use mathlib.Core.List.{List, [], _∷_, map}
 use Prim.Native.Nat.{ℕ, suc}
@@ -13,7 +13,7 @@ use Rattle.rules.specs.Written.{unplaced}
 use Rattle.rules.specs.Demands.{plain}
 use Rattle.rules.specs.Laws.Tests.{by-test}
 use Rattle.rules.specs.Laws.Verdicts.{then-passes, one-passes}
-use Rattle.rules.specs.Laws.Passes.{doubled-step, words-step, step-words, shared-none, shared-split, shared-join}
+use Rattle.rules.specs.Laws.Passes.{doubled-step, words-step, step-words, shared-none, shared-split, shared-join, phandle-here, phandle-past}
 
 -- ---- properties and nodes
 
@@ -132,14 +132,6 @@ words-moved (moved-node {a = a} {b = b} {t = t} {u = u} m r) h =
 data SamePhandle : Option Property → Option Property → Type 0 where
   neither : SamePhandle none none
   each : {p q : Property} → p .value ≡ q .value → SamePhandle (some p) (some q)
-
-phandle-here : (p : Property) (ps : List Property) → isPhandle (p .name) ≡ true → phandleProp (p ∷ ps) ≡ some p
-unfolding phandleProp
-phandle-here p ps e = rw (e, phandleProp)
-
-phandle-past : (p : Property) (ps : List Property) → isPhandle (p .name) ≡ false → phandleProp (p ∷ ps) ≡ phandleProp ps
-unfolding phandleProp
-phandle-past p ps e = rw (e, phandleProp)
 
 phandle-moved : {ps qs : List Property} → MovedProps ps qs → SamePhandle (phandleProp ps) (phandleProp qs)
 unfolding phandleProp

@@ -16,7 +16,7 @@ use Rattle.rules.specs.Octets.{Bytes, byteAt, hasNul}
 use Rattle.rules.specs.Names.{within, nodeChar, propertyChar, atSign, nodeNameValid, propertyNameValid, nodeNameReads}
 use Rattle.rules.specs.Lists.{oneOf, every}
 use Rattle.rules.specs.Laws.Octets.{has-nul-not}
-use Rattle.rules.specs.Laws.Tests.{by-test, by-le, never, and-true, or-cases, or-right, or-nothing}
+use Rattle.rules.specs.Laws.Tests.{by-test, by-le, never, and-true, or-cases, or-right, or-nothing, true-and}
 
 -- ---- a rule for characters over a range of them
 
@@ -176,6 +176,11 @@ unfolding every
 every-at f [] h i k = absurd (omega arith)
 every-at f (b ∷ bs) h zero k = and-true (f b) (every f bs) h .0
 every-at f (b ∷ bs) h (suc i) k = every-at f bs (and-true (f b) (every f bs) h .1) i (omega arith)
+
+pub every-all : (f : ℕ → Bool) (s : Bytes) → ((i : ℕ) → i < length s → f (byteAt s i) ≡ true) → every f s ≡ true
+unfolding every
+every-all f [] h = refl
+every-all f (b ∷ bs) h = true-and (f b) (every f bs) (h 0 (omega arith)) (every-all f bs (λ i k. h (suc i) (omega arith)))
 
 -- where an @ stands, one stands
 pub at-byte : (s : Bytes) → atSign s < length s → byteAt s (atSign s) ≡ 64

@@ -11,7 +11,7 @@ use lib.Dec.{eqb}
 use lib.ListN.{length, take, drop, set, getD, take-append-drop, length-append, length-take, length-drop, length-replicate, getD-replicate, drop-of-length-le, List·getD-append, List·getD-eq-default, length-reverse}
 use lib.Seq.{length-take-le, take-add, take-length, take-all, take-at, drop-at, drop-drop, take-take, take-append-le, take-append-add, drop-append-seam, take-append-seam, getD-append-add, getD-take, getD-drop, getD-set-same, getD-set-other, sets-eq, set-split, paste, paste-zero, paste-suc, drop-cons, append-snoc}
 use borrow.Author.Tests.{eq-eqb, ne-eqb, eqb-true, eqb-false, ltb-true}
-use Rattle.rules.specs.Octets.{Bytes, byteAt, wordAt, longAt, be32, be64, words32, words64, zeros, padded, filled, part, put, lay, nulIn, hasNul, same, begins, ends, holds}
+use Rattle.rules.specs.Octets.{Bytes, AreBytes, byteAt, wordAt, longAt, be32, be64, zeros, padded, filled, part, put, lay, nulIn, hasNul, same, begins, ends, holds}
 use Rattle.rules.specs.Laws.Tests.{by-test, by-le, never, both-ways, and-true, not-passed}
 
 -- ---- parts
@@ -227,25 +227,11 @@ pub length-be64 : (v : ℕ) → length (be64 v) ≡ 8
 unfolding be64
 length-be64 v = rw (length-append, length-be32 (v / 4294967296), length-be32 (v % 4294967296))
 
-pub length-words32 : (vs : List ℕ) → length (words32 vs) ≡ 4 * length vs
-unfolding words32
-length-words32 [] = refl
-length-words32 (v ∷ vs) = rw (length-append, length-be32 v, length-words32 vs) (omega arith)
-
-pub length-words64 : (vs : List ℕ) → length (words64 vs) ≡ 8 * length vs
-unfolding words64
-length-words64 [] = refl
-length-words64 (v ∷ vs) = rw (length-append, length-be64 v, length-words64 vs) (omega arith)
-
--- bytes are below 256, as a slice of them tells
-abbrev pub Octets : Bytes → Type 0
-Octets s = (i : ℕ) → byteAt s i < 256
-
-pub word-small : (s : Bytes) (at : ℕ) → Octets s → wordAt s at < 4294967296
+pub word-small : (s : Bytes) (at : ℕ) → AreBytes s → wordAt s at < 4294967296
 unfolding wordAt
 word-small s at o = omega (arith, o at, o (at + 1), o (at + 2), o (at + 3))
 
-pub long-small : (s : Bytes) (at : ℕ) → Octets s → longAt s at < 18446744073709551616
+pub long-small : (s : Bytes) (at : ℕ) → AreBytes s → longAt s at < 18446744073709551616
 unfolding longAt
 long-small s at o = omega (arith, word-small s at o, word-small s (at + 4) o)
 
@@ -291,7 +277,7 @@ be32-joined a b c e ha hb hc he =
     let t : v % 256 ≡ e = omega arith in
     rw (p, q, r, t)
 
-pub be32-word : (s : Bytes) (at : ℕ) → Octets s → at + 4 ≤ length s → be32 (wordAt s at) ≡ part s at 4
+pub be32-word : (s : Bytes) (at : ℕ) → AreBytes s → at + 4 ≤ length s → be32 (wordAt s at) ≡ part s at 4
 unfolding wordAt
 be32-word s at o h =
     be32-joined (byteAt s at) (byteAt s (at + 1)) (byteAt s (at + 2)) (byteAt s (at + 3)) (o at) (o (at + 1)) (o (at + 2)) (o (at + 3))
@@ -317,7 +303,7 @@ be64-reads v h =
 pub long-be64 : (s : Bytes) (at v : ℕ) → v < 18446744073709551616 → part s at 8 ≡ be64 v → longAt s at ≡ v
 long-be64 s at v h e = sym (rw add-zero at (long-part s at 8 0 (omega arith))) ∙ rw e (be64-reads v h)
 
-pub be64-long : (s : Bytes) (at : ℕ) → Octets s → at + 8 ≤ length s → be64 (longAt s at) ≡ part s at 8
+pub be64-long : (s : Bytes) (at : ℕ) → AreBytes s → at + 8 ≤ length s → be64 (longAt s at) ≡ part s at 8
 unfolding longAt be64
 be64-long s at o h =
     let k = word-small s (at + 4) o in
@@ -386,6 +372,15 @@ nul-end s i h = rw drop-of-length-le
 pub nul-cons : (b : ℕ) (s : Bytes) → (b ≡ 0 → ⊥) → nulIn (b ∷ s) ≡ suc (nulIn s)
 unfolding nulIn
 nul-cons b s h = rw (ne-eqb b 0 h, nulIn)
+
+-- the same by the test
+pub nul-stop : (b : ℕ) (s : Bytes) → eqb b 0 ≡ true → nulIn (b ∷ s) ≡ 0
+unfolding nulIn
+nul-stop b s e = rw (e, nulIn)
+
+pub nul-on : (b : ℕ) (s : Bytes) → eqb b 0 ≡ false → nulIn (b ∷ s) ≡ suc (nulIn s)
+unfolding nulIn
+nul-on b s e = rw (e, nulIn)
 
 pub nul-first : (s : Bytes) → nulIn (0 ∷ s) ≡ 0
 unfolding nulIn

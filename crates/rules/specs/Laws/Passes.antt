@@ -59,6 +59,16 @@ step-words had p ps w = rw (w .size, w .phandle) (w .later)
 
 -- ---- 12
 
+-- the first property that gives a phandle is this one, or comes later
+module _ (p : Property) (ps : List Property) where
+  pub phandle-here : isPhandle (p .name) ≡ true → phandleProp (p ∷ ps) ≡ some p
+  unfolding phandleProp
+  phandle-here e = rw (e, phandleProp)
+
+  pub phandle-past : isPhandle (p .name) ≡ false → phandleProp (p ∷ ps) ≡ phandleProp ps
+  unfolding phandleProp
+  phandle-past e = rw (e, phandleProp)
+
 module _ (seen : List ℕ) (n : Node) (ns : List Node) where
   pub shared-none : phandleProp (n .props) ≡ none → sharedFrom seen (n ∷ ns) ≡ sharedFrom seen ns
   unfolding sharedFrom

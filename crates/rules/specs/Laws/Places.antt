@@ -1,5 +1,5 @@
 -- The place of a refusal is an offset of the blob, or its end.
-use mathlib.Core.Path.{_≡_, refl, sym, ap, _∙_, subst}
+use mathlib.Core.Path.{_≡_, refl, subst}
 use mathlib.Core.Bool.{Bool, true, false, not, _&&_, _||_}
 use mathlib.Core.List.{List, [], _∷_}
 use mathlib.Core.Option.{Option, none, some}
@@ -14,14 +14,13 @@ use Rattle.rules.specs.Blob.{Header, headerIn, misplaced, Block, headerJ
 use Rattle.rules.specs.Tokens.{Placed, tokenAt, following, tokensFrom, tokens}
 use Rattle.rules.specs.Lists.{oneOf}
 use Rattle.rules.specs.Events.{Walk, Step, stop, done, go, onToken, after, judge, shapeJudged, Property, Event, opens, has, closes, saying, eventsOf, eventsIn, atStart}
-use Rattle.rules.specs.Tree.{Node, Tree, top, rest, propsOf, nodesFrom, nodesOf, sibling, named, doubledProps, doubledFrom, doubledJudged, isPhandle, readName, differs, wordsFrom, wordsJudged, phandleProp, sharedFrom, sharedJudged}
+use Rattle.rules.specs.Tree.{Node, Tree, rest, propsOf, nodesFrom, nodesOf, sibling, named, doubledProps, doubledFrom, doubledJudged, isPhandle, readName, differs, wordsFrom, wordsJudged, phandleProp, sharedFrom, sharedJudged}
 use Rattle.rules.specs.Reader.{eventsRead, treeRead, blobJudged}
 use Rattle.rules.specs.Laws.Tests.{by-test}
 use Rattle.rules.specs.Laws.Blob.{header-inside, block-inside}
 use Rattle.rules.specs.Laws.Tokens.{Ahead, token-ahead}
 use Rattle.rules.specs.declared.Token.{Token}
 use Rattle.rules.specs.declared.Token.the-variants.{Item, End, Cut}
-use Rattle.rules.specs.declared.Kind.{Kind}
 use Rattle.rules.specs.declared.Kind.the-variants.{Begin, EndNode, Prop, Nop}
 
 -- a judgement that does not refuse past a limit

@@ -22,7 +22,8 @@ use Rattle.rules.specs.Laws.Octets.{length-be32}
 use Rattle.rules.specs.Laws.Shape.{reads-nul, property-nul}
 use Rattle.rules.specs.Laws.Nested.{after-mono, ending-passes, Nested, finished, root, child, holds, shuts, events-nested}
 use Rattle.rules.specs.Laws.Moved.{Says, says-all, says-open, says-has, says-close}
-use Rattle.rules.specs.Laws.Encoded.{length-begin, length-end, length-property, end-written, last-written, begin-written, begin-named, property-written, property-valued, offset-le, interned, string-stands, string-reads}
+use Rattle.rules.specs.Laws.Encoded.{end-written, last-written, begin-written, begin-named, property-written, property-valued, interned, string-stands, string-reads}
+use Rattle.rules.specs.Laws.Writer.{length-begin, length-end, length-property, offset-le}
 
 -- ---- what events add to the two blocks
 
@@ -158,7 +159,7 @@ module _ (place : ℕ) (W F : Bytes) (fits : length W < 4294967296) (near : leng
   offset-small : (name strings grown : Bytes) → F ≡ (strings ++ nameGrowth name strings) ++ grown → nameOffset name strings < 4294967296
   offset-small name strings grown e =
       let x : Bytes = nameGrowth name strings in
-      omega (arith, ap length e ∙ length-append (strings ++ x) grown, length-append strings x, offset-le name true strings)
+      omega (arith, ap length e ∙ length-append (strings ++ x) grown, length-append strings x, offset-le name strings)
 
   trip : (es : List Event) (strings p : Bytes) (fuel at : ℕ) → W ≡ p ++ (structureOf strings es ++ be32 9) → length p ≡ at → F ≡ stringsOf strings es
       → length es < fuel → Clean es → Trip es (tokensFrom fuel W at)

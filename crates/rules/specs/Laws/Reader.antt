@@ -1,16 +1,15 @@
 -- The laws of what the reader leaves in its work space: words, then zeros, then what was there.
 use mathlib.Core.Path.{_≡_, refl, sym, ap, _∙_}
-use mathlib.Core.List.{List, [], _∷_, _++_, append-assoc, append-nil}
+use mathlib.Core.List.{List, [], _∷_, _++_, append-assoc}
 use Prim.Native.Nat.{ℕ, zero, suc, _+_, _-_, _*_, _≤_, _<_}
 use native.Mathlib.Nat.{zero-add, sub-zero}
 use native.Mathlib.Omega.{arith}
-use native.Mathlib.Numerals.{add-one}
-use lib.ListN.{length, getD, drop, set, replicate, length-append, length-drop, length-set, length-replicate, getD-replicate, List·getD-append}
+use lib.ListN.{length, getD, drop, set, length-append, length-drop, length-set, getD-replicate, List·getD-append}
 use lib.Seq.{drop-at, set-at, set-append-left}
 use Rattle.rules.specs.Ceilings.{workWords, nodeCeiling}
 use Rattle.rules.specs.Octets.{Bytes, zeros, put, lay}
 use Rattle.rules.specs.Events.{Property, Event, opens, has, closes}
-use Rattle.rules.specs.Tree.{Node, Tree, top, rest, nodesFrom}
+use Rattle.rules.specs.Tree.{Tree, top, rest, nodesFrom}
 use Rattle.rules.specs.Reader.{spaceOf}
 use Rattle.rules.specs.Laws.Octets.{length-zeros, lay-put}
 

@@ -13,7 +13,7 @@ use lib.Seq.{take-suc}
 use borrow.Author.Tests.{le-leb, lt-leb, ltb-true, lt-ltb, eqb-false}
 use Rattle.rules.specs.Reservations.{Entry, invalid, anyInvalid, insert, sortedFrom, neighbours, overlapping}
 use Rattle.rules.specs.Laws.Octets.{drop-taken, drop-all}
-use Rattle.rules.specs.Laws.Tests.{by-le, never, or-false, or-right, not-passed}
+use Rattle.rules.specs.Laws.Tests.{by-le, never, or-false, or-right, not-passed, or-comm, or-assoc}
 
 -- ---- every pair
 
@@ -46,16 +46,6 @@ abbrev pub anyPair : List Entry → Bool
 anyPair es = pairsFrom [] es
 
 -- ---- neighbours in address order
-
-or-comm : (a b : Bool) → (a || b) ≡ (b || a)
-or-comm true true = refl
-or-comm true false = refl
-or-comm false true = refl
-or-comm false false = refl
-
-or-assoc : (a b c : Bool) → ((a || b) || c) ≡ (a || (b || c))
-or-assoc true b c = refl
-or-assoc false b c = refl
 
 meets-last : (l : List Entry) (e f : Entry) → anyMeets (l ++ e ∷ []) f ≡ (anyMeets l f || meets e f)
 unfolding anyMeets

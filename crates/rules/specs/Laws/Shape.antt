@@ -1,53 +1,25 @@
 -- The laws of the shape: what it says of a token, and of the walk behind it, that the walk passes; and what names that pass hold.
-use mathlib.Core.Path.{_≡_, refl, ap, _∙_}
+use mathlib.Core.Path.{_≡_, refl, ap}
 use mathlib.Core.Logic.{_⊎_, inl, inr}
-use mathlib.Core.Bool.{Bool, true, false, not, _&&_}
-use mathlib.Core.List.{List, [], _∷_, List·Memᴰ·not-nil, List·Memᴰ·cases-cons}
+use mathlib.Core.Bool.{Bool, true, false, not}
+use mathlib.Core.List.{List, [], _∷_}
 use Prim.Native.Nat.{ℕ, suc, _<_}
 use native.Mathlib.Omega.{arith}
 use lib.ListN.{length}
 use lib.Dec.{eqb, leb}
 use borrow.Author.Tests.{eqb-true, eqb-false, leb-false, not-true}
-use Rattle.rules.specs.Ceilings.{nodeCeiling, openCeiling, nodeNameCeiling, propertyNameCeiling}
-use Rattle.rules.specs.Octets.{Bytes}
-use Rattle.rules.specs.Lists.{every, oneOf}
-use Rattle.rules.specs.Names.{nodeChar, propertyChar, atSign, beforeAt, afterAt, within, nodeNameValid, nodeNameReads, propertyNameValid, propertyNameReads}
+use Rattle.rules.specs.Ceilings.{nodeCeiling, openCeiling}
+use Rattle.rules.specs.Octets.{Bytes, byteAt}
+use Rattle.rules.specs.Names.{nodeNameValid, nodeNameReads, propertyNameReads}
 use Rattle.rules.specs.Outcome.{Verdict, passes}
 use Rattle.rules.specs.Events.{Walk, Step, stop, done, go, opening, closing, holding, after}
 use Rattle.rules.specs.Listing.{_∈_}
-use Rattle.rules.specs.Laws.Tests.{by-test, never, and-true, or-cases}
+use Rattle.rules.specs.Laws.Tests.{by-test, never, and-true}
 use Rattle.rules.specs.Laws.Lists.{every-mem}
 use Rattle.rules.specs.Laws.Verdicts.{gives-refuses}
+use Rattle.rules.specs.Laws.Names.{plain, every-all, node-name-plain, property-name-plain}
 
 -- ---- names
-
-at-here : (b : ℕ) (bs : Bytes) → eqb b 64 ≡ true → atSign (b ∷ bs) ≡ 0
-unfolding atSign
-at-here b bs e = rw (e, atSign)
-
-at-past : (b : ℕ) (bs : Bytes) → eqb b 64 ≡ false → atSign (b ∷ bs) ≡ suc (atSign bs)
-unfolding atSign
-at-past b bs e = rw (e, atSign)
-
--- a byte that is no character of a name, and no @
-module _ (x : ℕ) (foreign : nodeChar x ≡ false) (other : x ≡ 64 → ⊥) where
-  part-lacks : (s : Bytes) → every nodeChar s ≡ true → x ∈ s → ⊥
-  part-lacks s h m = never (nodeChar x) (every-mem nodeChar m h) foreign
-
-  -- is in no name of such characters around an @
-  name-lacks : (s : Bytes) → every nodeChar (beforeAt s) ≡ true → every nodeChar (afterAt s) ≡ true → x ∈ s → ⊥
-  unfolding every
-  name-lacks [] p q m = List·Memᴰ·not-nil m
-  name-lacks (b ∷ bs) p q m = by-test (eqb b 64)
-      (λ e. elim (List·Memᴰ·cases-cons m) [
-        | inl h ↦ other (h ∙ eqb-true b 64 e)
-        | inr k ↦ part-lacks bs (rw (at-here b bs e) at q) k
-      ])
-      (λ e. let h = and-true (nodeChar b) (every nodeChar (beforeAt bs)) (rw (at-past b bs e) at p) in
-      elim (List·Memᴰ·cases-cons m) [
-        | inl g ↦ never (nodeChar x) (rw g (h .0)) foreign
-        | inr k ↦ name-lacks bs (h .1) (rw (at-past b bs e) at q) k
-      ])
 
 pub reads-named : (s : Bytes) → nodeNameReads s ≡ true → s ≡ [] → ⊥
 unfolding nodeNameReads
@@ -55,44 +27,27 @@ reads-named s h e =
     let k = and-true (not (eqb (length s) 0)) (nodeNameValid s) h in
     eqb-false (length s) 0 (not-true (eqb (length s) 0) (k .0)) (ap length e)
 
-reads-parts : (s : Bytes) → nodeNameReads s ≡ true → (every nodeChar (beforeAt s) ≡ true) × (every nodeChar (afterAt s) ≡ true)
-unfolding nodeNameReads nodeNameValid
-reads-parts s h =
-    let k = and-true (not (eqb (length s) 0)) (nodeNameValid s) h in
-    elim (or-cases (eqb (length s) 0) (within 1 nodeNameCeiling (length (beforeAt s)) && every nodeChar (beforeAt s) && every nodeChar (afterAt s))
-    (k .1)) [
-      | inl e ↦ absurd (eqb-false (length s) 0 (not-true (eqb (length s) 0) (k .0)) (eqb-true (length s) 0 e))
-      | inr e ↦
-          let a = and-true (within 1 nodeNameCeiling (length (beforeAt s)) && every nodeChar (beforeAt s)) (every nodeChar (afterAt s)) e in
-          let b = and-true (within 1 nodeNameCeiling (length (beforeAt s))) (every nodeChar (beforeAt s)) (a .0) in
-          (b .1, a .1)
-    ]
+-- a byte that stands in no name
+name-lacks : (x : ℕ) (s : Bytes) → plain x ≡ false → ((i : ℕ) → i < length s → plain (byteAt s i) ≡ true) → x ∈ s → ⊥
+name-lacks x s f h m = never (plain x) (every-mem plain m (every-all plain s h)) f
 
-slash-char : nodeChar 47 ≡ false
-unfolding nodeChar oneOf
-slash-char = refl
-
-nul-char : nodeChar 0 ≡ false
-unfolding nodeChar oneOf
-nul-char = refl
+pub reads-valid : (s : Bytes) → nodeNameReads s ≡ true → nodeNameValid s ≡ true
+unfolding nodeNameReads
+reads-valid s h = and-true (not (eqb (length s) 0)) (nodeNameValid s) h .1
 
 -- a name that reads has no slash
 pub reads-plain : (s : Bytes) → nodeNameReads s ≡ true → 47 ∈ s → ⊥
-reads-plain s h m = let p = reads-parts s h in name-lacks 47 slash-char (λ (e : 47 ≡ 64). omega arith) s (p .0) (p .1) m
+unfolding plain
+reads-plain s h m = name-lacks 47 s refl (node-name-plain s (reads-valid s h)) m
 
 -- nor a NUL
 pub reads-nul : (s : Bytes) → nodeNameReads s ≡ true → 0 ∈ s → ⊥
-reads-nul s h m = let p = reads-parts s h in name-lacks 0 nul-char (λ (e : 0 ≡ 64). omega arith) s (p .0) (p .1) m
-
-nul-property : propertyChar 0 ≡ false
-unfolding propertyChar nodeChar oneOf
-nul-property = refl
+unfolding plain
+reads-nul s h m = name-lacks 0 s refl (node-name-plain s (reads-valid s h)) m
 
 pub property-nul : (s : Bytes) → propertyNameReads s ≡ true → 0 ∈ s → ⊥
-unfolding propertyNameReads propertyNameValid
-property-nul s h m =
-    let k = and-true (within 1 propertyNameCeiling (length s)) (every propertyChar s) h in
-    never (propertyChar 0) (every-mem propertyChar m (k .1)) nul-property
+unfolding propertyNameReads plain
+property-nul s h m = name-lacks 0 s refl (property-name-plain s h) m
 
 -- ---- steps
 

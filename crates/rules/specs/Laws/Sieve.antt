@@ -1,9 +1,8 @@
 -- The laws of the sieve, of events that pass the shape: what it leaves passes too, and has exactly the kept nodes, in order, with all
 -- their properties; a kept node's parent is its old parent's new number.
 use mathlib.Core.Path.{_≡_, refl, ap, _∙_}
-use mathlib.Core.Logic.{inl, inr}
 use mathlib.Core.Bool.{Bool, true, false}
-use mathlib.Core.List.{List, [], _∷_, map, List·Memᴰ·tail, List·Memᴰ·cases-cons}
+use mathlib.Core.List.{List, [], _∷_, map, List·Memᴰ·tail}
 use Prim.Native.Nat.{ℕ, zero, suc, _+_, _≤_, _<_}
 use native.Mathlib.Omega.{arith}
 use native.Mathlib.Nat.{add-zero}
@@ -17,7 +16,7 @@ use Rattle.rules.specs.Tree.{Node, Tree, node, propsOf, top, nodesFrom}
 use Rattle.rules.specs.Copy.{sieve}
 use Rattle.rules.specs.Listing.{_∈_}
 use Rattle.rules.specs.Laws.Tests.{by-test, by-le, never}
-use Rattle.rules.specs.Laws.Lists.{keep-yes, keep-no}
+use Rattle.rules.specs.Laws.Lists.{keep-yes, keep-no, small-more}
 use Rattle.rules.specs.Laws.Nested.{Nested, finished, root, child, holds, shuts}
 
 -- ---- new numbers
@@ -111,9 +110,6 @@ module _ (k : ℕ → Bool) (zeroth : k 0 ≡ true) where
       → Nested ended stack count (opens place name ∷ es)
   child-any stack j js e r f g n = rw e (child r (rw e at f) g (rw e at n))
 
-  small-next : (stack : List ℕ) (n : ℕ) → ((x : ℕ) → x ∈ stack → x < n) → (x : ℕ) → x ∈ n ∷ stack → x < suc n
-  small-next stack n s x m = elim (List·Memᴰ·cases-cons m) [ inl e ↦ omega arith | inr p ↦ omega (arith, s x p) ]
-
   -- WHAT IS LEFT PASSES THE SHAPE. `ended′` says that the innermost kept node has had a kept child.
   pub sieve-nested : {ended : Bool} {stack : List ℕ} {next : ℕ} {es : List Event} → Nested ended stack next es → Rooted stack
       → ((x : ℕ) → x ∈ stack → x < next) → (ended′ : Bool) → (ended ≡ false → k (top stack) ≡ true → ended′ ≡ false)
@@ -122,15 +118,15 @@ module _ (k : ℕ → Bool) (zeroth : k 0 ≡ true) where
   sieve-nested (finished {count = n} z) r s d h = rw new-nil (finished (λ (e : rank k n ≡ 0). omega (arith, rank-positive n (omega arith))))
   sieve-nested (root {count = n} {place = p} {name = name} {es = es} z e t) r s d h =
       let kn : k n ≡ true = rw z zeroth in
-      let ih = sieve-nested t z (small-next [] n s) false (λ a b. refl) in
+      let ih = sieve-nested t z (small-more [] n s) false (λ a b. refl) in
       rw (kn, new-nil) (root (zero-rank n z) e (rw (new-yes n [] kn, new-nil, rank-yes k n kn) at ih))
   sieve-nested (child {i = i} {count = n} {place = p} {is = is} {name = name} {es = es} e f g t) r s d h = by-test (k n)
-      (λ kn. let ih = sieve-nested t r (small-next (i ∷ is) n s) false (λ a b. refl) in
+      (λ kn. let ih = sieve-nested t r (small-more (i ∷ is) n s) false (λ a b. refl) in
       let o = new-some i is r in
       rw kn
       (child-any (new (i ∷ is)) (o .0) (o .1) (o .2) e (omega (arith, new-length (i ∷ is))) (omega (arith, rank-le k n))
       (rw (new-yes n (i ∷ is) kn, rank-yes k n kn) at ih)))
-      (λ kn. let ih = sieve-nested t r (small-next (i ∷ is) n s) d (λ a b. never (k n) b kn) in
+      (λ kn. let ih = sieve-nested t r (small-more (i ∷ is) n s) d (λ a b. never (k n) b kn) in
       rw kn (rw (new-no n (i ∷ is) kn, rank-no k n kn) at ih))
   sieve-nested (holds {i = i} {count = n} {is = is} {p = p} {es = es} e t) r s d h = by-test (k i)
       (λ ki. let ih = sieve-nested t r s false (λ a b. refl) in

@@ -1,8 +1,8 @@
 -- The node table of a blob that is accepted: its rows are the nodes', its first node is the root, a parent's number is smaller
 -- than its node's, and there are no more nodes than the ceiling.
-use mathlib.Core.Path.{_≡_, refl, sym, ap, _∙_}
-use mathlib.Core.Bool.{Bool, true, false}
-use mathlib.Core.List.{List, [], _∷_, _++_}
+use mathlib.Core.Path.{_≡_, refl, ap, _∙_}
+use mathlib.Core.Bool.{Bool}
+use mathlib.Core.List.{List, [], _∷_}
 use mathlib.Core.Option.{Option, none, some}
 use Prim.Native.Nat.{ℕ, zero, suc, _+_, _*_, _≤_, _<_}
 use native.Mathlib.Omega.{arith}
@@ -16,8 +16,7 @@ use Rattle.rules.specs.Events.{Event, shapeJudged, eventsIn}
 use Rattle.rules.specs.Tree.{Node, Tree, node, nodesFrom, nodesOf, phandleOf}
 use Rattle.rules.specs.Reader.{eventsRead, treeRead, blobJudged, rowOf, rowsOf}
 use Rattle.rules.specs.Laws.Nested.{Nested, finished, root, child, holds, shuts, events-pass, events-nested}
-use Rattle.rules.specs.Laws.Paths.{Formed}
-use Rattle.rules.specs.Laws.Formed.{Accepted, accepted, read-formed}
+use Rattle.rules.specs.Laws.Formed.{accepted, read-formed, empty-name}
 
 -- ---- a row for each node
 
@@ -98,14 +97,10 @@ pub record Rooted (t : Tree) : Type 0 where
   pub name : node t 0 .name ≡ []
   pub parent : node t 0 .parent ≡ 0
 
-no-bytes : (s : Bytes) → length s ≡ 0 → s ≡ []
-no-bytes [] h = refl
-no-bytes (x ∷ s) h = absurd (let z : ⊥ = omega arith in z)
-
 rooted : {ended : Bool} {count : ℕ} {es : List Event} → count ≡ 0 → Nested ended [] count es → Rooted (nodesFrom [] count es)
 unfolding nodesFrom
 rooted z (finished n) = absurd (n z)
-rooted z (root {name = name} y e n) = record { some = omega arith; name = no-bytes name e; parent = refl }
+rooted z (root {name = name} y e n) = record { some = omega arith; name = empty-name name e; parent = refl }
 
 pub nodes-rooted : (b : Block) → shapeJudged b ≡ passes → Rooted (nodesOf (eventsIn b))
 unfolding nodesOf

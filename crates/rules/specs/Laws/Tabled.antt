@@ -1,7 +1,6 @@
 -- The tree that a node table and its structure say, node by node: what code over the table promises. Of the table of a blob that
 -- is accepted it is the tree read.
 use mathlib.Core.Path.{_≡_, refl, sym, ap, _∙_}
-use mathlib.Core.Bool.{Bool, true, false}
 use mathlib.Core.List.{List, [], _∷_, map}
 use mathlib.Core.Option.{Option, none, some, Option·map}
 use Prim.Native.Nat.{ℕ, zero, suc, _+_, _-_, _*_, _≤_, _<_}
@@ -20,7 +19,6 @@ use Rattle.rules.specs.Tree.{Node, Tree, node, nowhere, numbersFrom, pro
 use Rattle.rules.specs.References.{Rules, placeOf, wordNamed, cellCount}
 use Rattle.rules.specs.declared.Token.{Token}
 use Rattle.rules.specs.declared.Token.the-variants.{Item, End, Cut}
-use Rattle.rules.specs.Laws.Tests.{by-test}
 use Rattle.rules.specs.Laws.Lists.{length-numbers, map-at}
 use Rattle.rules.specs.Laws.Events.{eventsAt}
 use Rattle.rules.specs.Laws.References.{by-option}
@@ -56,7 +54,7 @@ nodeIn b ws i = record {
 unfoldable pub treeIn : Block → (words : List ℕ) (count : ℕ) → Tree
 treeIn b ws count = map (nodeIn b ws) (numbersFrom 0 count)
 
-number-at : (from n i : ℕ) → i < n → getD (numbersFrom from n) i 0 ≡ from + i
+pub number-at : (from n i : ℕ) → i < n → getD (numbersFrom from n) i 0 ≡ from + i
 unfolding numbersFrom
 number-at from zero i h = absurd (let z : ⊥ = omega arith in z)
 number-at from (suc n) zero h = sym (add-zero from)

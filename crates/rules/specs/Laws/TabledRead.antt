@@ -1,30 +1,27 @@
 -- The node table of a blob that is accepted says the tree read: its nodes stand in the structure where their rows say, and the
 -- phandles of the rows are the nodes'.
-use mathlib.Core.Path.{_≡_, refl, sym, ap, ap₂, _∙_, subst}
-use mathlib.Core.Bool.{Bool, true, false}
+use mathlib.Core.Path.{_≡_, refl, sym, ap, ap₂, _∙_}
 use mathlib.Core.List.{List, [], _∷_, map}
-use mathlib.Core.Option.{Option, none, some}
-use Prim.Native.Nat.{ℕ, zero, suc, _+_, _-_, _*_, _≤_, _<_}
+use mathlib.Core.Option.{none}
+use Prim.Native.Nat.{ℕ, zero, suc, _+_, _*_, _≤_, _<_}
 use native.Mathlib.Omega.{arith}
-use lib.Dec.{eqb, leb}
 use lib.ListN.{length, getD, drop, length-map}
 use lib.Seq.{ext-getD}
 use borrow.Author.Tests.{le-ltb}
-use Rattle.rules.specs.Ceilings.{workWords, nodeCeiling}
-use Rattle.rules.specs.Octets.{Bytes, if_then_else_, part, nulIn, wordAt, padded}
+use Rattle.rules.specs.Ceilings.{workWords}
+use Rattle.rules.specs.Octets.{Bytes, part, nulIn}
 use Rattle.rules.specs.Outcome.{passes}
 use Rattle.rules.specs.Blob.{Block, blockIn}
-use Rattle.rules.specs.Tokens.{whole, beginAt, propAt, tagged, tokenAt}
-use Rattle.rules.specs.Events.{Property, Event, opens, has, closes, stringAt, nodeNameAt, saying, eventsIn}
+use Rattle.rules.specs.Tokens.{tokenAt}
+use Rattle.rules.specs.Events.{Property, Event, stringAt, nodeNameAt, saying, eventsIn}
 use Rattle.rules.specs.Tree.{Node, Tree, node, nowhere, propsOf, rest, nodesFrom, nodesOf, phandleOf, numbersFrom}
-use Rattle.rules.specs.Reader.{eventsRead, treeRead, blobJudged, rowOf, rowsOf, spaceOf, tableOf, readWork}
+use Rattle.rules.specs.Reader.{eventsRead, treeRead, blobJudged, rowsOf, spaceOf, readWork}
 use Rattle.rules.specs.References.{placeOf, lookup}
 use Rattle.rules.specs.declared.Token.{Token}
 use Rattle.rules.specs.declared.Token.the-variants.{Item, End, Cut}
 use Rattle.rules.specs.declared.Kind.{Kind}
 use Rattle.rules.specs.declared.Kind.the-variants.{Begin, EndNode, Prop, Nop}
-use Rattle.rules.specs.Laws.Tests.{by-test}
-use Rattle.rules.specs.Laws.Tokens.{if-by, Ahead, token-ahead}
+use Rattle.rules.specs.Laws.Tokens.{Ahead, token-ahead, begin-says}
 use Rattle.rules.specs.Laws.Lists.{length-numbers, map-at}
 use Rattle.rules.specs.Laws.Events.{eventsAt, events-all, events-item, events-end, events-cut}
 use Rattle.rules.specs.Laws.References.{by-option}
@@ -32,42 +29,7 @@ use Rattle.rules.specs.Laws.Reader.{space-get, table-fits}
 use Rattle.rules.specs.Laws.Table.{rows-length, row-place, row-parent, row-given, row-none, read-table}
 use Rattle.rules.specs.Laws.Paths.{Formed}
 use Rattle.rules.specs.Laws.Formed.{read-formed}
-use Rattle.rules.specs.Laws.Tabled.{cell, propsBehind, propsAt, beginOf, nodeIn, treeIn, tree-length, node-in, phandleIn, phandlesFrom, lookIn}
-
--- ---- a BEGIN tells its name
-
-abbrev Named : Bytes → (b : ℕ) → Token → Type 0
-Named s b (Item (Begin len) next) = len ≡ nulIn (drop b s)
-Named s b (Item EndNode next) = Unit {0}
-Named s b (Item (Prop len name value) next) = Unit {0}
-Named s b (Item Nop next) = Unit {0}
-Named s b End = Unit {0}
-Named s b Cut = Unit {0}
-
-module _ (s : Bytes) (b : ℕ) where
-  begin-named : Named s b (beginAt s b)
-  unfolding beginAt
-  begin-named = if-by (Named s b) (leb (b + padded (nulIn (drop b s) + 1)) (length s)) (λ _. refl) (λ _. tt)
-
-  prop-named : Named s b (propAt s b)
-  unfolding propAt
-  prop-named =
-      if-by (Named s b) (leb (b + 8) (length s))
-      (λ _. if-by (Named s b) (leb (b + 8 + padded (wordAt s b)) (length s)) (λ _. tt) (λ _. tt))
-      (λ _. tt)
-
-  tagged-named : (tag : ℕ) → Named s b (tagged tag s b)
-  unfolding tagged
-  tagged-named tag =
-      if-by (Named s b) (eqb tag 1) (λ _. begin-named)
-      (λ _. if-by (Named s b) (eqb tag 2) (λ _. tt)
-      (λ _. if-by (Named s b) (eqb tag 3) (λ _. prop-named)
-      (λ _. if-by (Named s b) (eqb tag 4) (λ _. tt)
-      (λ _. if-by (Named s b) (eqb tag 9) (λ _. tt) (λ _. tt)))))
-
-token-named : (s : Bytes) (at : ℕ) → Named s (at + 4) (tokenAt s at)
-unfolding tokenAt
-token-named s at = if-by (Named s (at + 4)) (leb (at + 4) (length s)) (λ _. tagged-named s (at + 4) (wordAt s at)) (λ _. tt)
+use Rattle.rules.specs.Laws.Tabled.{cell, propsBehind, propsAt, beginOf, nodeIn, treeIn, tree-length, node-in, phandleIn, phandlesFrom, lookIn, number-at}
 
 -- ---- a node stands where it says
 
@@ -119,7 +81,7 @@ module _ (b : Block) where
   unfolding stringAt propsAt
   row-node ws i n s e f =
       let k : beginOf (b .place) ws i ≡ s .at = omega (arith, s .place) in
-      let l : s .len ≡ nulIn (drop (s .at + 4) (b .structure)) = subst (Named (b .structure) (s .at + 4)) (s .token) (token-named (b .structure) (s .at)) in
+      let l : s .len ≡ nulIn (drop (s .at + 4) (b .structure)) = begin-says (b .structure) (s .at) (s .len) (s .next) (s .token) .name in
       let a : stringAt (b .structure) (beginOf (b .place) ws i + 4) ≡ n .name =
       ap (λ (j : ℕ). stringAt (b .structure) (j + 4)) k ∙ ap (part (b .structure) (s .at + 4)) (sym l) ∙ sym (s .name) in
       let p : propsAt b (beginOf (b .place) ws i) ≡ n .props = ap (propsAt b) k ∙ ap (propsBehind b) (s .token) ∙ sym (s .props) in
@@ -150,12 +112,6 @@ module _ (b : Block) (ws : List ℕ) (t : Tree) (r : Rows b ws t) where
       let c : cell ws i 2 ≡ 1 = r i 2 h (omega arith) ∙ q .0 in
       let d : cell ws i 3 ≡ v = r i 3 h (omega arith) ∙ q .1 in
       rw (c, d, e))
-
-  number-at : (from n i : ℕ) → i < n → getD (numbersFrom from n) i 0 ≡ from + i
-  unfolding numbersFrom
-  number-at from zero i h = absurd (let z : ⊥ = omega arith in z)
-  number-at from (suc n) zero h = omega arith
-  number-at from (suc n) (suc i) h = number-at (suc from) n i (omega arith) ∙ omega arith
 
   phandles-said : phandlesFrom ws 0 (length t) ≡ map phandleOf t
   unfolding phandlesFrom

@@ -3,7 +3,7 @@ use mathlib.Core.Path.{_≡_, refl, sym}
 use mathlib.Core.Logic.{_⊎_, inl, inr}
 use mathlib.Core.Bool.{Bool, true, false, _&&_, _||_}
 use Prim.Native.Nat.{ℕ, _≤_, _<_}
-use lib.Dec.{leb, ltb}
+use lib.Dec.{eqb, leb, ltb}
 use native.Mathlib.Omega.{arith}
 use borrow.Author.Tests.{eqb-true, eqb-false, eq-eqb, ne-eqb, leb-true, leb-false, le-leb, lt-leb, ltb-true, ltb-false, lt-ltb, le-ltb}
 
@@ -26,6 +26,9 @@ pub both-ways : (a b : Bool) → (a ≡ true → b ≡ true) → (b ≡ true →
 both-ways true b f g = sym (f refl)
 both-ways false true f g = g refl
 both-ways false false f g = refl
+
+pub eqb-sym : (a b : ℕ) → eqb a b ≡ eqb b a
+eqb-sym a b = both-ways (eqb a b) (eqb b a) (λ e. eq-eqb b a (sym (eqb-true a b e))) (λ e. eq-eqb a b (sym (eqb-true b a e)))
 
 pub ltb-cong : (a b c e : ℕ) → (a < b → c < e) → (c < e → a < b) → ltb a b ≡ ltb c e
 ltb-cong a b c e f g = both-ways (ltb a b) (ltb c e) (λ h. lt-ltb c e (f (ltb-true a b h))) (λ h. lt-ltb a b (g (ltb-true c e h)))
@@ -66,9 +69,23 @@ pub or-nothing : (a : Bool) → (a || false) ≡ a
 or-nothing true = refl
 or-nothing false = refl
 
+pub or-comm : (a b : Bool) → (a || b) ≡ (b || a)
+or-comm true true = refl
+or-comm true false = refl
+or-comm false true = refl
+or-comm false false = refl
+
+pub or-assoc : (a b c : Bool) → ((a || b) || c) ≡ (a || (b || c))
+or-assoc true b c = refl
+or-assoc false b c = refl
+
 pub and-nothing : (a : Bool) → (a && true) ≡ a
 and-nothing true = refl
 and-nothing false = refl
+
+pub and-none : (a : Bool) → (a && false) ≡ false
+and-none true = refl
+and-none false = refl
 
 -- the test passes, or it does not
 pub not-passed : (b : Bool) → (b ≡ true → ⊥) → b ≡ false

@@ -1,4 +1,5 @@
--- The laws of tokens: an item ends further on and inside the block, and the tokens from a place on without their fuel.
+-- The laws of tokens: what a token says of the bytes at its place, that an item ends further on and inside the block, and the
+-- tokens from a place on without their fuel.
 use mathlib.Core.Path.{_≡_, refl, sym, ap, _∙_, subst}
 use mathlib.Core.Bool.{Bool, true, false}
 use mathlib.Core.List.{List, [], _∷_}
@@ -6,17 +7,85 @@ use Prim.Native.Nat.{ℕ, zero, suc, _+_, _≤_, _<_}
 use native.Mathlib.Omega.{arith}
 use lib.Dec.{eqb, leb}
 use lib.ListN.{length, drop}
-use borrow.Author.Tests.{leb-true}
+use borrow.Author.Tests.{leb-true, eqb-true}
 use Rattle.rules.specs.Octets.{Bytes, if_then_else_, wordAt, nulIn, padded}
-use Rattle.rules.specs.Tokens.{whole, beginAt, propAt, tagged, tokenAt, Placed, following, tokensFrom, tokens}
+use Rattle.rules.specs.Tokens.{beginAt, propAt, tagged, tokenAt, Placed, following, tokensFrom, tokens}
 use Rattle.rules.specs.declared.Token.{Token}
 use Rattle.rules.specs.declared.Token.the-variants.{Item, End, Cut}
 use Rattle.rules.specs.declared.Kind.{Kind}
+use Rattle.rules.specs.declared.Kind.the-variants.{Begin, EndNode, Prop, Nop}
 
 -- what holds of a choice, from the case that was chosen
 pub if-by : {A : Type 0} (P : A → Type 0) (t : Bool) {a b : A} → (t ≡ true → P a) → (t ≡ false → P b) → P (if t then a else b)
 if-by P true f g = f refl
 if-by P false f g = g refl
+
+-- ---- what a token says of its place
+
+pub record BeginSeen (s : Bytes) (at len next : ℕ) : Type 0 where
+  pub tag : wordAt s at ≡ 1
+  pub name : len ≡ nulIn (drop (at + 4) s)
+  pub ends : next ≡ at + 4 + padded (len + 1)
+  pub inside : next ≤ length s
+
+pub record PropSeen (s : Bytes) (at len name value next : ℕ) : Type 0 where
+  pub tag : wordAt s at ≡ 3
+  pub size : len ≡ wordAt s (at + 4)
+  pub offset : name ≡ wordAt s (at + 4 + 4)
+  pub begins : value ≡ at + 4 + 8
+  pub ends : next ≡ at + 4 + 8 + padded len
+  pub inside : next ≤ length s
+
+pub record TagSeen (s : Bytes) (at next v : ℕ) : Type 0 where
+  pub tag : wordAt s at ≡ v
+  pub ends : next ≡ at + 4
+  pub inside : at + 4 ≤ length s
+
+abbrev pub Seen : Bytes → ℕ → Token → Type 0
+Seen s at (Item (Begin len) next) = BeginSeen s at len next
+Seen s at (Item EndNode next) = TagSeen s at next 2
+Seen s at (Item (Prop len name value) next) = PropSeen s at len name value next
+Seen s at (Item Nop next) = TagSeen s at next 4
+Seen s at End = TagSeen s at (at + 4) 9
+Seen s at Cut = Unit {0}
+
+module _ (s : Bytes) (at : ℕ) (h : at + 4 ≤ length s) where
+  begin-seen : wordAt s at ≡ 1 → Seen s at (beginAt s (at + 4))
+  unfolding beginAt
+  begin-seen t =
+      let len : ℕ = nulIn (drop (at + 4) s) in
+      let next : ℕ = at + 4 + padded (len + 1) in
+      if-by (Seen s at) (leb next (length s)) (λ e. record { tag = t; name = refl; ends = refl; inside = leb-true next (length s) e }) (λ _. tt)
+
+  prop-seen : wordAt s at ≡ 3 → Seen s at (propAt s (at + 4))
+  unfolding propAt
+  prop-seen t =
+      let next : ℕ = at + 4 + 8 + padded (wordAt s (at + 4)) in
+      if-by (Seen s at) (leb (at + 4 + 8) (length s))
+      (λ _. if-by (Seen s at) (leb next (length s))
+      (λ e. record { tag = t; size = refl; offset = refl; begins = refl; ends = refl; inside = leb-true next (length s) e }) (λ _. tt))
+      (λ _. tt)
+
+  tagged-seen : (v : ℕ) → wordAt s at ≡ v → Seen s at (tagged v s (at + 4))
+  unfolding tagged
+  tagged-seen v t =
+      if-by (Seen s at) (eqb v 1) (λ e. begin-seen (t ∙ eqb-true v 1 e))
+      (λ _. if-by (Seen s at) (eqb v 2) (λ e. record { tag = t ∙ eqb-true v 2 e; ends = refl; inside = h })
+      (λ _. if-by (Seen s at) (eqb v 3) (λ e. prop-seen (t ∙ eqb-true v 3 e))
+      (λ _. if-by (Seen s at) (eqb v 4) (λ e. record { tag = t ∙ eqb-true v 4 e; ends = refl; inside = h })
+      (λ _. if-by (Seen s at) (eqb v 9) (λ e. record { tag = t ∙ eqb-true v 9 e; ends = refl; inside = h }) (λ _. tt)))))
+
+pub token-seen : (s : Bytes) (at : ℕ) → Seen s at (tokenAt s at)
+unfolding tokenAt
+token-seen s at =
+    if-by (Seen s at) (leb (at + 4) (length s)) (λ e. tagged-seen s at (leb-true (at + 4) (length s) e) (wordAt s at) refl) (λ _. tt)
+
+-- the same of a token that is known
+pub begin-says : (s : Bytes) (at len next : ℕ) → tokenAt s at ≡ Item (Begin len) next → BeginSeen s at len next
+begin-says s at len next e = subst (Seen s at) e (token-seen s at)
+
+pub prop-says : (s : Bytes) (at len name value next : ℕ) → tokenAt s at ≡ Item (Prop len name value) next → PropSeen s at len name value next
+prop-says s at len name value next e = subst (Seen s at) e (token-seen s at)
 
 -- ---- an item ends further on, and inside
 
@@ -25,32 +94,16 @@ Ahead s at (Item kind next) = (at + 4 ≤ next) × (next ≤ length s)
 Ahead s at End = at + 4 ≤ length s
 Ahead s at Cut = Unit
 
-module _ (s : Bytes) (at : ℕ) (h : at + 4 ≤ length s) where
-  whole-ahead : (next : ℕ) (kind : Kind) → at + 4 ≤ next → Ahead s at (whole s next kind)
-  whole-ahead next kind k = if-by (Ahead s at) (leb next (length s)) (λ e. (k, leb-true next (length s) e)) (λ _. tt)
-
-  begin-ahead : Ahead s at (beginAt s (at + 4))
-  unfolding beginAt
-  begin-ahead = whole-ahead (at + 4 + padded (nulIn (drop (at + 4) s) + 1)) _ (omega arith)
-
-  prop-ahead : Ahead s at (propAt s (at + 4))
-  unfolding propAt
-  prop-ahead =
-      if-by (Ahead s at) (leb (at + 4 + 8) (length s)) (λ _. whole-ahead (at + 4 + 8 + padded (wordAt s (at + 4))) _ (omega arith)) (λ _. tt)
-
-  tagged-ahead : (tag : ℕ) → Ahead s at (tagged tag s (at + 4))
-  unfolding tagged
-  tagged-ahead tag =
-      if-by (Ahead s at) (eqb tag 1) (λ _. begin-ahead)
-      (λ _. if-by (Ahead s at) (eqb tag 2) (λ _. (omega arith, h))
-      (λ _. if-by (Ahead s at) (eqb tag 3) (λ _. prop-ahead)
-      (λ _. if-by (Ahead s at) (eqb tag 4) (λ _. (omega arith, h))
-      (λ _. if-by (Ahead s at) (eqb tag 9) (λ _. h) (λ _. tt)))))
+seen-ahead : (s : Bytes) (at : ℕ) (t : Token) → Seen s at t → Ahead s at t
+seen-ahead s at (Item (Begin len) next) r = (omega (arith, r .ends), r .inside)
+seen-ahead s at (Item EndNode next) r = (omega (arith, r .ends), omega (arith, r .ends, r .inside))
+seen-ahead s at (Item (Prop len name value) next) r = (omega (arith, r .ends), r .inside)
+seen-ahead s at (Item Nop next) r = (omega (arith, r .ends), omega (arith, r .ends, r .inside))
+seen-ahead s at End r = r .inside
+seen-ahead s at Cut r = tt
 
 pub token-ahead : (s : Bytes) (at : ℕ) → Ahead s at (tokenAt s at)
-unfolding tokenAt
-token-ahead s at =
-    if-by (Ahead s at) (leb (at + 4) (length s)) (λ e. tagged-ahead s at (leb-true (at + 4) (length s) e) (wordAt s at)) (λ _. tt)
+token-ahead s at = seen-ahead s at (tokenAt s at) (token-seen s at)
 
 -- the same of a token in hand
 pub item-ahead : (s : Bytes) (at : ℕ) (t : Token) (kind : Kind) (next : ℕ) → t ≡ tokenAt s at → t ≡ Item kind next → (at + 4 ≤ next) × (next ≤ length s)

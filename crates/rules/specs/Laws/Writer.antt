@@ -2,18 +2,18 @@
 use mathlib.Core.Path.{_≡_, refl, sym, ap, _∙_}
 use mathlib.Core.Bool.{Bool, true, false, not, _&&_, _||_}
 use mathlib.Core.List.{List, [], _∷_, _++_, append-assoc, append-nil}
-use Prim.Native.Nat.{ℕ, suc, _+_, _-_, _*_, _/_, _%_, _≤_, _<_, min}
+use Prim.Native.Nat.{ℕ, suc, _+_, _-_, _*_, _/_, _%_, _≤_, _<_}
 use native.Mathlib.Omega.{arith}
 use native.Mathlib.Numerals.{add-one}
-use lib.Dec.{eqb, ltb, leb}
-use lib.ListN.{length, take, drop, getD, replicate, length-append, length-take, take-append-drop, drop-of-length-le}
+use lib.Dec.{eqb}
+use lib.ListN.{length, take, drop, getD, length-append, length-take, take-append-drop, drop-of-length-le}
 use lib.Seq.{take-suc, drop-cons, getD-take, length-take-le}
-use borrow.Author.Tests.{eqb-true, eqb-false, eq-eqb, ne-eqb, ltb-true, ltb-false, lt-ltb, le-ltb}
+use borrow.Author.Tests.{eq-eqb, ne-eqb}
 use Rattle.rules.specs.Octets.{Bytes, byteAt, be32, be64, words32, words64, zeros, padded, filled, lay, nulIn, closed, begins}
 use Rattle.rules.specs.Lists.{oneOf}
 use Rattle.rules.specs.Writer.{beginBytes, endBytes, propertyBytes, nameFrom, nameOffset, badList}
-use Rattle.rules.specs.Laws.Tests.{by-test, both-ways, and-nothing}
-use Rattle.rules.specs.Laws.Octets.{lay-lay, lay-nil, lay-past, lay-more, length-be32, length-be64, length-zeros}
+use Rattle.rules.specs.Laws.Tests.{by-test, and-nothing, eqb-sym}
+use Rattle.rules.specs.Laws.Octets.{lay-lay, lay-more, length-be32, length-be64, length-filled, nul-stop, nul-on}
 
 -- ---- laid part by part
 
@@ -26,10 +26,6 @@ laid-on d at xs ys e h f = f ∙ rw (e, h) (lay-lay d at xs ys)
 pub filled-eq : (bs : Bytes) → filled bs ≡ bs ++ zeros (padded (length bs) - length bs)
 unfolding filled
 filled-eq bs = refl
-
-pub length-filled : (bs : Bytes) → length (filled bs) ≡ padded (length bs)
-unfolding filled
-length-filled bs = rw (length-append, length-zeros) (omega arith)
 
 pub length-closed : (name : Bytes) → length (closed name) ≡ length name + 1
 length-closed name = length-append name (0 ∷ [])
@@ -113,7 +109,7 @@ words64-cut d at vs i h =
 
 pub length-begin : (name : Bytes) → length (beginBytes name) ≡ 4 + padded (length name + 1)
 unfolding beginBytes
-length-begin name = rw (length-append, length-be32 1, length-filled, length-closed name)
+length-begin name = rw (length-append, length-be32 1, length-filled (closed name), length-closed name)
 
 pub length-end : length endBytes ≡ 4
 unfolding endBytes
@@ -137,9 +133,6 @@ property-bytes offset value = simp append-assoc
 
 -- ---- the walk over the strings block
 
-eqb-sym : (a b : ℕ) → eqb a b ≡ eqb b a
-eqb-sym a b = both-ways (eqb a b) (eqb b a) (λ e. eq-eqb b a (sym (eqb-true a b e))) (λ e. eq-eqb a b (sym (eqb-true b a e)))
-
 -- a name closed by NUL begins s: the name does, and the byte behind it is a NUL
 pub begins-closed : (name s : Bytes) → length name < length s → begins (closed name) s ≡ begins name s && eqb (byteAt s (length name)) 0
 unfolding begins
@@ -157,14 +150,6 @@ unfolding nameFrom
 name-here name [] h e = refl
 name-here name (b ∷ s) h e = rw (e, nameFrom)
 
-nul-now : (b : ℕ) (s : Bytes) → eqb b 0 ≡ true → nulIn (b ∷ s) ≡ 0
-unfolding nulIn
-nul-now b s e = rw (e, nulIn)
-
-nul-later : (b : ℕ) (s : Bytes) → eqb b 0 ≡ false → nulIn (b ∷ s) ≡ suc (nulIn s)
-unfolding nulIn
-nul-later b s e = rw (e, nulIn)
-
 from-inside : (name : Bytes) (b : ℕ) (s : Bytes) → nameFrom false name (b ∷ s) ≡ suc (nameFrom (eqb b 0) name s)
 unfolding nameFrom
 from-inside name b s = refl
@@ -173,16 +158,16 @@ from-inside name b s = refl
 name-inside : (name s : Bytes) → nulIn s < length s → nameFrom false name s ≡ nulIn s + 1 + nameOffset name (drop (nulIn s + 1) s)
 name-inside name [] h = absurd (omega arith)
 name-inside name (b ∷ s) h = by-test (eqb b 0)
-    (λ e. rw (from-inside name b s, nul-now b s e, e) (omega arith))
-    (λ e. let k : nulIn s < length s = omega (arith, nul-later b s e) in
-    rw (from-inside name b s, nul-later b s e, e, name-inside name s k, add-one (suc (nulIn s)), add-one (nulIn s)) (omega arith))
+    (λ e. rw (from-inside name b s, nul-stop b s e, e) (omega arith))
+    (λ e. let k : nulIn s < length s = omega (arith, nul-on b s e) in
+    rw (from-inside name b s, nul-on b s e, e, name-inside name s k, add-one (suc (nulIn s)), add-one (nulIn s)) (omega arith))
 
 name-unclosed : (name s : Bytes) → length s ≤ nulIn s → nameFrom false name s ≡ length s
 unfolding nameFrom
 name-unclosed name [] h = refl
 name-unclosed name (b ∷ s) h = by-test (eqb b 0)
-    (λ e. absurd (omega (arith, nul-now b s e)))
-    (λ e. rw (from-inside name b s, e) (ap suc (name-unclosed name s (omega (arith, nul-later b s e)))))
+    (λ e. absurd (omega (arith, nul-stop b s e)))
+    (λ e. rw (from-inside name b s, e) (ap suc (name-unclosed name s (omega (arith, nul-on b s e)))))
 
 from-start : (name : Bytes) (b : ℕ) (s : Bytes) → begins (closed name) (b ∷ s) ≡ false → nameFrom true name (b ∷ s) ≡ nameFrom false name (b ∷ s)
 unfolding nameFrom

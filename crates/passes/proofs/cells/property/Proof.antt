@@ -2,7 +2,7 @@
 use mathlib.Core.Path.{sym, _∙_}
 use borrow.Author.Tests.{eq-eqb, ne-eqb}
 use Rattle.passes.specs.Cells.{onProperty}
-use Rattle.passes.proofs.Watched.{and-none}
+use Rattle.rules.specs.Laws.Tests.{and-none}
 use borrow.Author.Needs.{needs}
 use Rattle.passes.proofs.cells.property.Statement.{statement}
 use Rattle.passes.proofs.cells.property.Tie as tie

@@ -7,7 +7,7 @@ use denote.Ref.{now}
 use Rattle.rules.specs.Ceilings.{workWords}
 use Rattle.rules.specs.Octets.{part}
 use Rattle.rules.specs.Events.{stringAt}
-use Rattle.passes.specs.Sorted.{chunkRoom, Framed}
+use Rattle.passes.specs.Sorted.{chunkRoom, taken, Framed}
 use Rattle.passes.proofs.Doubles.{stands-here, stands-none}
 use Rattle.passes.proofs.Chunks.{Filled, filled-start, filled-done, filled-none, filled-twice, filled-more, framed-same, framed-more, finds-taken, finds-free, full-at}
 use borrow.Author.Needs.{needs}
@@ -16,13 +16,13 @@ use Rattle.passes.proofs.props.build.Tie as tie
 
 abbrev Inv-loop : tie.InvT-loop
 Inv-loop s strings work₀ from left n₀ here₀ work n here =
-    (n ≤ chunkRoom) × (n ≤ left) × (here ≤ length s) × (length work ≡ length work₀) × Framed work₀ work × Filled s strings from left n here work
+    (n ≤ chunkRoom) × (n ≤ left) × (here ≤ length s) × (length work ≡ length work₀) × Framed work₀ (taken left) work × Filled s strings from left n here work
 
 abbrev μ-loop : tie.MeasureT-loop
 μ-loop s strings work₀ from left n₀ here₀ work n here = chunkRoom - n
 
 loop-holds : tie.Need-loop-holds Inv-loop μ-loop
-loop-holds c = (omega arith, omega arith, c .before .before .before .pre .0, refl, framed-same (now (c .before .before .before .args .work)), filled-start (now (c .before .before .before .args .s)) (now (c .before .before .before .args .strings)) (c .before .before .before .args .from) (c .before .before .before .args .left) (now (c .before .before .before .args .work)))
+loop-holds c = (omega arith, omega arith, c .before .before .before .pre .0, refl, framed-same (now (c .before .before .before .args .work)) (taken (c .before .before .before .args .left)), filled-start (now (c .before .before .before .args .s)) (now (c .before .before .before .args .strings)) (c .before .before .before .args .from) (c .before .before .before .args .left) (now (c .before .before .before .args .work)))
 
 same-length : tie.Need-same-length Inv-loop μ-loop
 same-length c = search needs
@@ -95,7 +95,7 @@ loop-again c =
       omega arith,
       k .within,
       c .before .before .insert .kept .0 ∙ c .before .before .before .before .before .before .before .before .before .before .before .before .before .before .before .before .before .loop .inv .3,
-      framed-more (now (c .before .before .before .before .before .before .before .before .before .before .before .before .before .before .before .before .before .before .before .before .before .args .work)) (c .before .before .before .before .before .before .before .before .before .before .before .before .before .before .before .before .before .loop .work) (c .before .before .insert .last .0) (c .before .before .before .before .before .before .before .before .before .before .before .before .before .before .before .before .before .loop .n) (c .before .before .before .before .before .spot .given .0 .0) (c .before .before .before .before .before .before .before .before .before .before .before .before .at .given .0 .1 .0) (c .before .before .before .before .before .before .before .before .before .before .before .before .before .before .before .before .loop-test .taken) (c .before .before .before .before .before .before .before .before .before .before .before .before .before .before .before .before .before .loop .inv .4) (c .before .before .insert .ensures),
+      framed-more (now (c .before .before .before .before .before .before .before .before .before .before .before .before .before .before .before .before .before .before .before .before .before .args .work)) (c .before .before .before .before .before .before .before .before .before .before .before .before .before .before .before .before .before .loop .work) (c .before .before .insert .last .0) (taken (c .before .before .before .before .before .before .before .before .before .before .before .before .before .before .before .before .before .before .before .before .before .args .left)) (c .before .before .before .before .before .before .before .before .before .before .before .before .before .before .before .before .before .loop .n) (c .before .before .before .before .before .spot .given .0 .0) (c .before .before .before .before .before .before .before .before .before .before .before .before .at .given .0 .1 .0) (omega (arith, c .before .before .before .before .before .before .before .before .before .before .before .before .before .before .before .before .loop-test .taken, c .before .before .before .before .before .before .before .before .before .before .before .before .before .before .before .if1 .left)) (c .before .before .before .before .before .before .before .before .before .before .before .before .before .before .before .before .before .loop .inv .4) (c .before .before .insert .ensures),
       filled-more (now (c .before .before .before .before .before .before .before .before .before .before .before .before .before .before .before .before .before .before .before .before .before .args .s)) (now (c .before .before .before .before .before .before .before .before .before .before .before .before .before .before .before .before .before .before .before .before .before .args .strings)) (c .before .before .before .before .before .before .before .before .before .before .before .before .before .before .before .before .before .before .before .before .before .args .from) (c .before .before .before .before .before .before .before .before .before .before .before .before .before .before .before .before .before .before .before .before .before .args .left) (c .before .before .before .before .before .before .before .before .before .before .before .before .before .before .before .before .before .loop .n) (c .before .before .before .before .before .before .before .before .before .before .before .before .before .before .before .before .before .loop .here) (c .before .before .before .before .before .before .before .before .before .before .before .before .before .before .before .before .before .loop .work) (c .before .before .before .before .before .before .before .before .before .before .before .before .before .before .before .before .before .loop .inv .5) (c .before .before .before .before .before .before .before .before .before .before .before .before .before .before .before .if1 .left) (c .before .before .before .before .before .before .before .before .before .before .before .before .at .given .0 .0) (c .before .before .before .before .before .before .before .before .before .before .before .before .at .given .0 .1 .0) (c .before .before .before .before .before .before .before .before .before .before .before .before .at .given .0 .1 .1 .0) k (c .before .before .before .before .before .spot .given .0 .0) (c .before .before .insert .last .0) t (c .before .before .insert .ensures),
     )
 

@@ -8,11 +8,12 @@ use lib.Dec.{eqb}
 use lib.ListN.{length, take}
 use lib.Seq.{take-length}
 use denote.Ref.{now}
+use borrow.Author.Tests.{not-true, not-false}
 use Rattle.rules.specs.Octets.{Bytes, same, ends}
 use Rattle.rules.specs.Tree.{path, spell, node}
 use Rattle.paths.specs.Trees.{treeOf}
 use Rattle.paths.proofs.Climbs.{spell-none, spell-root, spell-step, path-root, path-other}
-use Rattle.paths.proofs.Endings.{closes-room, same-not, same-on, same-none, un-not, un-not-false}
+use Rattle.paths.proofs.Endings.{closes-room, same-not, same-on, same-none}
 use borrow.Author.Needs.{needs}
 use Rattle.paths.proofs.lookup.has_path.Statement.{statement}
 use Rattle.paths.proofs.lookup.has_path.Tie as tie
@@ -56,16 +57,16 @@ returns-3 c =
     λ strings.
     let t = treeOf (c .before .before .before .before .before .before .before .before .before .before .args .place) (now (c .before .before .before .before .before .before .before .before .before .before .args .structure)) strings (now (c .before .before .before .before .before .before .before .before .before .before .args .work)) (c .before .before .before .before .before .before .before .before .before .before .args .count) in
     let k : ends (47 ∷ node t (c .before .before .before .before .before .loop .at) .name) (take (c .before .before .before .before .before .loop .e) (now (c .before .before .before .before .before .before .before .before .before .before .args .p))) ≡ false =
-    ap (λ (n : Bytes). ends (47 ∷ n) (take (c .before .before .before .before .before .loop .e) (now (c .before .before .before .before .before .before .before .before .before .before .args .p)))) (sym (c .before .before .name .ensures strings)) ∙ sym (c .before .closes .ensures) ∙ un-not (c .before .closes .result) (c .if3 .taken) in
+    ap (λ (n : Bytes). ends (47 ∷ n) (take (c .before .before .before .before .before .loop .e) (now (c .before .before .before .before .before .before .before .before .before .before .args .p)))) (sym (c .before .before .name .ensures strings)) ∙ sym (c .before .closes .ensures) ∙ not-true (c .before .closes .result) (c .if3 .taken) in
     sym (c .before .before .before .before .before .loop .inv .1 strings
     ∙ ap (λ (x : Bytes). same x (take (c .before .before .before .before .before .loop .e) (now (c .before .before .before .before .before .before .before .before .before .before .args .p)))) (spell-step t (c .before .before .before .before .before .loop .left) (c .before .before .before .before .before .loop .at) (c .before .before .before .before .loop-test .taken) (c .before .before .before .if2 .left))
     ∙ same-not (now (c .before .before .before .before .before .before .before .before .before .before .args .p)) (node t (c .before .before .before .before .before .loop .at) .name) (c .before .before .before .before .before .loop .e) (c .before .before .before .before .before .loop .inv .0) (spell t (c .before .before .before .before .before .loop .left - 1) (node t (c .before .before .before .before .before .loop .at) .parent)) k)
 
 sub-e : tie.Need-sub-e Inv-loop μ-loop
-sub-e c = omega (arith, closes-room (now (c .before .before .before .before .before .before .before .before .before .before .args .p)) (now (c .before .before .name .result)) (c .before .before .before .before .before .loop .e) (c .before .before .before .before .before .loop .inv .0) (sym (c .before .closes .ensures) ∙ un-not-false (c .before .closes .result) (c .if3 .left)))
+sub-e c = omega (arith, closes-room (now (c .before .before .before .before .before .before .before .before .before .before .args .p)) (now (c .before .before .name .result)) (c .before .before .before .before .before .loop .e) (c .before .before .before .before .before .loop .inv .0) (sym (c .before .closes .ensures) ∙ not-false (c .before .closes .result) (c .if3 .left)))
 
 sub-e-2 : tie.Need-sub-e-2 Inv-loop μ-loop
-sub-e-2 c = omega (arith, closes-room (now (c .before .before .before .before .before .before .before .before .before .before .args .p)) (now (c .before .before .name .result)) (c .before .before .before .before .before .loop .e) (c .before .before .before .before .before .loop .inv .0) (sym (c .before .closes .ensures) ∙ un-not-false (c .before .closes .result) (c .if3 .left)))
+sub-e-2 c = omega (arith, closes-room (now (c .before .before .before .before .before .before .before .before .before .before .args .p)) (now (c .before .before .name .result)) (c .before .before .before .before .before .loop .e) (c .before .before .before .before .before .loop .inv .0) (sym (c .before .closes .ensures) ∙ not-false (c .before .closes .result) (c .if3 .left)))
 
 up-requires : tie.Need-up-requires Inv-loop μ-loop
 up-requires c κs = tt
@@ -83,7 +84,7 @@ loop-again c = (
       let t = treeOf (c .before .before .before .before .before .before .before .before .before .before .before .args .place) (now (c .before .before .before .before .before .before .before .before .before .before .before .args .structure)) strings (now (c .before .before .before .before .before .before .before .before .before .before .before .args .work)) (c .before .before .before .before .before .before .before .before .before .before .before .args .count) in
       let q = c .before .before .before .name .ensures strings in
       let k : ends (47 ∷ node t (c .before .before .before .before .before .before .loop .at) .name) (take (c .before .before .before .before .before .before .loop .e) (now (c .before .before .before .before .before .before .before .before .before .before .before .args .p))) ≡ true =
-      ap (λ (n : Bytes). ends (47 ∷ n) (take (c .before .before .before .before .before .before .loop .e) (now (c .before .before .before .before .before .before .before .before .before .before .before .args .p)))) (sym q) ∙ sym (c .before .before .closes .ensures) ∙ un-not-false (c .before .before .closes .result) (c .before .if3 .left) in
+      ap (λ (n : Bytes). ends (47 ∷ n) (take (c .before .before .before .before .before .before .loop .e) (now (c .before .before .before .before .before .before .before .before .before .before .before .args .p)))) (sym q) ∙ sym (c .before .before .closes .ensures) ∙ not-false (c .before .before .closes .result) (c .before .if3 .left) in
       c .before .before .before .before .before .before .loop .inv .1 strings
       ∙ ap (λ (x : Bytes). same x (take (c .before .before .before .before .before .before .loop .e) (now (c .before .before .before .before .before .before .before .before .before .before .before .args .p)))) (spell-step t (c .before .before .before .before .before .before .loop .left) (c .before .before .before .before .before .before .loop .at) (c .before .before .before .before .before .loop-test .taken) (c .before .before .before .before .if2 .left))
       ∙ same-on (now (c .before .before .before .before .before .before .before .before .before .before .before .args .p)) (node t (c .before .before .before .before .before .before .loop .at) .name) (c .before .before .before .before .before .before .loop .e) (c .before .before .before .before .before .before .loop .inv .0) (spell t (c .before .before .before .before .before .before .loop .left - 1) (node t (c .before .before .before .before .before .before .loop .at) .parent)) k

@@ -2,8 +2,8 @@
 use mathlib.Core.Path.{refl}
 use Rattle.rules.specs.Octets.{ascii}
 use Rattle.rules.specs.References.{isReference}
-use Rattle.rules.specs.Laws.Tests.{and-nothing}
-use Rattle.references.proofs.Names.{in-parts, and-not}
+use Rattle.rules.specs.Laws.Tests.{and-nothing, and-none}
+use Rattle.references.proofs.Names.{in-parts}
 use Rattle.references.proofs.rows.is_phandle_property.Statement.{statement}
 use Rattle.references.proofs.rows.is_phandle_property.Tie as tie
 
@@ -63,7 +63,7 @@ begins-requires c κs = tt
 
 returns-7 : tie.Need-returns-7
 unfolding isReference ascii
-returns-7 c = simp (in-parts, ← c .before .before .before .before .before .before .before .before .before .before .before .before .before .before .before .before .is-provided .ensures, c .before .before .before .before .before .before .before .before .before .before .before .before .before .before .before .if1 .left, ← c .before .before .before .before .before .before .before .before .before .before .before .before .before .before .is-attached .ensures, c .before .before .before .before .before .before .before .before .before .before .before .before .before .if2 .left, ← c .before .before .before .before .before .before .before .before .before .before .before .before .is-pinctrl .ensures, c .before .before .before .before .before .before .before .before .before .before .before .if3 .left, ← c .before .before .before .before .before .before .before .before .before .ends .ensures, c .before .before .before .before .before .before .before .before .if4 .left, ← c .before .before .before .before .before .before .same .ensures, c .before .before .before .before .before .if5 .left, ← c .before .before .before .before .is-gpio .ensures, c .before .before .before .if6 .left, ← c .before .begins .ensures, c .if7 .taken, and-not)
+returns-7 c = simp (in-parts, ← c .before .before .before .before .before .before .before .before .before .before .before .before .before .before .before .before .is-provided .ensures, c .before .before .before .before .before .before .before .before .before .before .before .before .before .before .before .if1 .left, ← c .before .before .before .before .before .before .before .before .before .before .before .before .before .before .is-attached .ensures, c .before .before .before .before .before .before .before .before .before .before .before .before .before .if2 .left, ← c .before .before .before .before .before .before .before .before .before .before .before .before .is-pinctrl .ensures, c .before .before .before .before .before .before .before .before .before .before .before .if3 .left, ← c .before .before .before .before .before .before .before .before .before .ends .ensures, c .before .before .before .before .before .before .before .before .if4 .left, ← c .before .before .before .before .before .before .same .ensures, c .before .before .before .before .before .if5 .left, ← c .before .before .before .before .is-gpio .ensures, c .before .before .before .if6 .left, ← c .before .begins .ensures, c .if7 .taken, and-none)
 
 slice-aggregate-holds : tie.Need-slice-aggregate-holds
 slice-aggregate-holds c = refl

@@ -15,7 +15,7 @@ use Rattle.rules.specs.Copy.{sieve}
 use Rattle.rules.specs.Laws.Tests.{by-test, or-false, or-left}
 use Rattle.rules.specs.Laws.Octets.{same-eq}
 use Rattle.rules.specs.Laws.References.{by-option}
-use Rattle.rules.specs.Laws.Passes.{shared-none, shared-some}
+use Rattle.rules.specs.Laws.Passes.{shared-none, shared-some, phandle-here, phandle-past}
 
 -- ---- properties
 
@@ -68,14 +68,6 @@ module _ (p : Property) (ps : List Property) where
   words-skip : (had : Option ℕ) → readName (p .name) ≡ false → wordsFrom had (p ∷ ps) ≡ wordsFrom had ps
   unfolding wordsFrom
   words-skip had e = let o = or-false (isPhandle (p .name)) (among (p .name) cellsNames) e in rw (o .0, o .1)
-
-  phandle-here : isPhandle (p .name) ≡ true → phandleProp (p ∷ ps) ≡ some p
-  unfolding phandleProp
-  phandle-here e = rw (e, phandleProp)
-
-  phandle-past : isPhandle (p .name) ≡ false → phandleProp (p ∷ ps) ≡ phandleProp ps
-  unfolding phandleProp
-  phandle-past e = rw (e, phandleProp)
 
 -- 11 of a node
 pub words-same : (had : Option ℕ) {ps qs : List Property} → Alike Public ps qs → wordsFrom had ps ≡ wordsFrom had qs

@@ -15,9 +15,10 @@ use Rattle.rules.specs.Blob.{headerIn, entriesFrom, entriesIn, misplaced
 use Rattle.rules.specs.Events.{shapeJudged}
 use Rattle.rules.specs.Reader.{eventsRead}
 use Rattle.rules.specs.Laws.Tests.{by-test, by-le}
-use Rattle.rules.specs.Laws.Header.{entries-cut, entries-last, entries-more, Laid}
+use Rattle.rules.specs.Laws.Header.{Laid}
 use Rattle.rules.specs.Laws.Secrecy.Alike.{Veiled}
 use Rattle.rules.specs.Laws.Secrecy.Tokens.{Clear, word-same, part-same, Hidden, Open, behind-all, shape-kept, events-kept}
+use Rattle.rules.specs.Laws.Blob.{entries-cut, entries-last, entries-more}
 
 -- ---- the same bytes
 

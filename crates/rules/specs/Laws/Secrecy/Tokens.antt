@@ -10,7 +10,7 @@ use lib.ListN.{length, getD, take, drop, length-take, length-drop}
 use lib.Seq.{ext-getD, getD-take, getD-drop}
 use lib.Dec.{eqb, leb, ltb}
 use borrow.Author.Tests.{eqb-true, leb-true, ltb-true}
-use Rattle.rules.specs.Octets.{Bytes, wordAt, nulIn, padded, part}
+use Rattle.rules.specs.Octets.{Bytes, wordAt, nulIn, part}
 use Rattle.rules.specs.Outcome.{Verdict}
 use Rattle.rules.specs.Blob.{Block}
 use Rattle.rules.specs.Tokens.{Placed, beginAt, propAt, tagged, tokenAt, following, tokensFrom, tokens}
@@ -22,70 +22,8 @@ use Rattle.rules.specs.declared.Token.the-variants.{Item, End, Cut}
 use Rattle.rules.specs.declared.Kind.the-variants.{Begin, EndNode, Prop, Nop}
 use Rattle.rules.specs.Laws.Tests.{by-test, never, and-true}
 use Rattle.rules.specs.Laws.Secrecy.Alike.{Veiled, veiled, both-open, both-have, both-close}
-
--- ---- what a token reads
-
-pub record ReadsMark (s : Bytes) (at mark next : ℕ) : Type 0 where
-  pub tag : wordAt s at ≡ mark
-  pub past : next ≡ at + 4
-  pub fits : next ≤ length s
-
-pub record ReadsBegin (s : Bytes) (at len next : ℕ) : Type 0 where
-  pub tag : wordAt s at ≡ 1
-  pub size : len ≡ nulIn (drop (at + 4) s)
-  pub past : next ≡ at + 4 + padded (len + 1)
-  pub fits : next ≤ length s
-
-pub record ReadsProp (s : Bytes) (at len name value next : ℕ) : Type 0 where
-  pub tag : wordAt s at ≡ 3
-  pub start : value ≡ at + 4 + 8
-  pub past : next ≡ at + 4 + 8 + padded len
-  pub fits : next ≤ length s
-
-abbrev pub Reads : Bytes → ℕ → Token → Type 0
-Reads s at (Item (Begin len) next) = ReadsBegin s at len next
-Reads s at (Item EndNode next) = ReadsMark s at 2 next
-Reads s at (Item (Prop len name value) next) = ReadsProp s at len name value next
-Reads s at (Item Nop next) = ReadsMark s at 4 next
-Reads s at End = Unit {0}
-Reads s at Cut = Unit {0}
-
-module _ (s : Bytes) (at : ℕ) where
-  begin-reads : wordAt s at ≡ 1 → Reads s at (beginAt s (at + 4))
-  unfolding beginAt
-  begin-reads e =
-      let len : ℕ = nulIn (drop (at + 4) s) in
-      by-test (leb (at + 4 + padded (len + 1)) (length s))
-      (λ h. rw h (record { tag = e; size = refl; past = refl; fits = leb-true (at + 4 + padded (len + 1)) (length s) h }))
-      (λ h. rw h tt)
-
-  prop-reads : wordAt s at ≡ 3 → Reads s at (propAt s (at + 4))
-  unfolding propAt
-  prop-reads e = by-test (leb (at + 4 + 8) (length s))
-      (λ g. by-test (leb (at + 4 + 8 + padded (wordAt s (at + 4))) (length s))
-      (λ h. rw (g, h) (record { tag = e; start = refl; past = refl; fits = leb-true (at + 4 + 8 + padded (wordAt s (at + 4))) (length s) h }))
-      (λ h. rw (g, h) tt))
-      (λ g. rw g tt)
-
-  tagged-reads : at + 4 ≤ length s → Reads s at (tagged (wordAt s at) s (at + 4))
-  unfolding tagged
-  tagged-reads fits = by-test (eqb (wordAt s at) 1)
-      (λ a. rw a (begin-reads (eqb-true (wordAt s at) 1 a)))
-      (λ a. by-test (eqb (wordAt s at) 2)
-      (λ b. rw (a, b) (record { tag = eqb-true (wordAt s at) 2 b; past = refl; fits = fits }))
-      (λ b. by-test (eqb (wordAt s at) 3)
-      (λ c. rw (a, b, c) (prop-reads (eqb-true (wordAt s at) 3 c)))
-      (λ c. by-test (eqb (wordAt s at) 4)
-      (λ d. rw (a, b, c, d) (record { tag = eqb-true (wordAt s at) 4 d; past = refl; fits = fits }))
-      (λ d. by-test (eqb (wordAt s at) 9)
-      (λ e. rw (a, b, c, d, e) tt)
-      (λ e. rw (a, b, c, d, e) tt)))))
-
-  pub token-reads : Reads s at (tokenAt s at)
-  unfolding tokenAt
-  token-reads = by-test (leb (at + 4) (length s))
-      (λ e. rw e (tagged-reads (leb-true (at + 4) (length s) e)))
-      (λ e. rw e tt)
+use Rattle.rules.specs.Laws.Octets.{nul-stop, nul-on}
+use Rattle.rules.specs.Laws.Tokens.{PropSeen, Seen, token-seen}
 
 -- ---- the same bytes give the same
 
@@ -112,14 +50,6 @@ part-same s c v n e h =
     ∙ h (v + i) (omega arith) (omega arith)
     ∙ sym (getD-drop v c i 0)
     ∙ sym (getD-take n (drop v c) i 0 q))
-
-nul-stop : (x : ℕ) (s : Bytes) → eqb x 0 ≡ true → nulIn (x ∷ s) ≡ 0
-unfolding nulIn
-nul-stop x s e = rw (e, nulIn)
-
-nul-on : (x : ℕ) (s : Bytes) → eqb x 0 ≡ false → nulIn (x ∷ s) ≡ suc (nulIn s)
-unfolding nulIn
-nul-on x s e = rw (e, nulIn)
 
 -- where the first NUL stands is known by the bytes up to it
 nul-same : (s c : Bytes) → length s ≡ length c → ((i : ℕ) → i ≤ nulIn s → getD s i 0 ≡ getD c i 0) → nulIn s ≡ nulIn c
@@ -196,25 +126,25 @@ module _ (S : ℕ → Bytes → Bool) (place : ℕ) (strings s : Bytes) where
       (x : ℕ) (stack : List ℕ) (next : ℕ) → Hidden S x stack next (eventsOf host (tokensFrom fuel s at))
       → (place + at + 12 ≤ x) × (x < place + length s)
 
-  behind-token : (fuel at : ℕ) → ((next : ℕ) → Behind fuel next) → (k : Token) → Reads s at k → (x : ℕ) (stack : List ℕ) (next : ℕ)
+  behind-token : (fuel at : ℕ) → ((next : ℕ) → Behind fuel next) → (k : Token) → Seen s at k → (x : ℕ) (stack : List ℕ) (next : ℕ)
       → Hidden S x stack next (saying host at k (eventsOf host (following (tokensFrom fuel s) k))) → (place + at + 12 ≤ x) × (x < place + length s)
   unfolding eventsOf
-  behind-token fuel at ih (Item (Begin len) to) r x stack next h = let b = ih to x (next ∷ stack) (suc next) h in (omega (arith, r .past), b .1)
-  behind-token fuel at ih (Item EndNode to) r x stack next h = let b = ih to x (rest stack) next h in (omega (arith, r .past), b .1)
+  behind-token fuel at ih (Item (Begin len) to) r x stack next h = let b = ih to x (next ∷ stack) (suc next) h in (omega (arith, r .ends), b .1)
+  behind-token fuel at ih (Item EndNode to) r x stack next h = let b = ih to x (rest stack) next h in (omega (arith, r .ends), b .1)
   behind-token fuel at ih (Item (Prop len name value) to) r x stack next (inl h) =
       let p : Property = record { place = place + at; name = stringAt strings name; value = part s value len } in
       let b = in-value p x (h .0) in
       let l : length (part s value len) ≡ min len (length (drop value s)) = length-take len (drop value s) in
-      (b .0, omega (arith, r .past, r .fits, b .1))
-  behind-token fuel at ih (Item (Prop len name value) to) r x stack next (inr h) = let b = ih to x stack next h in (omega (arith, r .past), b .1)
-  behind-token fuel at ih (Item Nop to) r x stack next h = let b = ih to x stack next h in (omega (arith, r .past), b .1)
+      (b .0, omega (arith, r .ends, r .inside, b .1))
+  behind-token fuel at ih (Item (Prop len name value) to) r x stack next (inr h) = let b = ih to x stack next h in (omega (arith, r .ends), b .1)
+  behind-token fuel at ih (Item Nop to) r x stack next h = let b = ih to x stack next h in (omega (arith, r .ends), b .1)
   behind-token fuel at ih End r x stack next h = absurd h
   behind-token fuel at ih Cut r x stack next h = absurd h
 
   pub behind : (fuel at : ℕ) → Behind fuel at
   unfolding tokensFrom eventsOf
   behind zero at x stack next h = absurd h
-  behind (suc fuel) at x stack next h = behind-token fuel at (behind fuel) (tokenAt s at) (token-reads s at) x stack next h
+  behind (suc fuel) at x stack next h = behind-token fuel at (behind fuel) (tokenAt s at) (token-seen s at) x stack next h
 
   module _ (c : Bytes) (size : length s ≡ length c) where
     abbrev other : Block
@@ -231,7 +161,7 @@ module _ (S : ℕ → Bytes → Bool) (place : ℕ) (strings s : Bytes) where
       | inr m ↦ absurd (omega (arith, behind fuel to (place + x) stack next m .0))
     ]
 
-    prop-clear : (fuel at len name value to : ℕ) → ReadsProp s at len name value to → (stack : List ℕ) (next : ℕ)
+    prop-clear : (fuel at len name value to : ℕ) → PropSeen s at len name value to → (stack : List ℕ) (next : ℕ)
         → Veil at stack next (saying host at (Item (Prop len name value) to) (eventsOf host (tokensFrom fuel s to))) → Clear s c at (at + 12)
     prop-clear fuel at len name value to r stack next v x p q = elim (v x p) [
       | inl e ↦ e
@@ -240,7 +170,7 @@ module _ (S : ℕ → Bytes → Bool) (place : ℕ) (strings s : Bytes) where
           arith,
           in-value (record { place = place + at; name = stringAt strings name; value = part s value len }) (place + x) (h .0) .0,
         ))
-        | inr h ↦ absurd (omega (arith, r .past, behind fuel to (place + x) stack next h .0))
+        | inr h ↦ absurd (omega (arith, r .ends, behind fuel to (place + x) stack next h .0))
       ]
     ]
 
@@ -248,17 +178,17 @@ module _ (S : ℕ → Bytes → Bool) (place : ℕ) (strings s : Bytes) where
     all-clear at stack next v j x p q = elim (v x p) [ inl e ↦ e | inr m ↦ absurd m ]
 
     -- the token at a place is the same
-    token-kept : (fuel at : ℕ) (k : Token) → Reads s at k → (stack : List ℕ) (next : ℕ)
+    token-kept : (fuel at : ℕ) (k : Token) → Seen s at k → (stack : List ℕ) (next : ℕ)
         → Veil at stack next (saying host at k (eventsOf host (following (tokensFrom fuel s) k))) → tokenAt s at ≡ tokenAt c at
     unfolding eventsOf
     token-kept fuel at (Item (Begin len) to) r stack next v =
         let clear : Clear s c at (to + 12) = clear-to fuel at to (next ∷ stack) (suc next) v in
-        token-same s c size at (λ x p q. clear x p (omega (arith, r .past)))
-        (λ e. begin-same s c size (at + 4) (λ x p q. clear x (omega arith) (omega (arith, r .past, r .size))))
+        token-same s c size at (λ x p q. clear x p (omega (arith, r .ends)))
+        (λ e. begin-same s c size (at + 4) (λ x p q. clear x (omega arith) (omega (arith, r .ends, r .name))))
         (λ (e : wordAt s at ≡ 3). absurd (omega (arith, r .tag)))
     token-kept fuel at (Item EndNode to) r stack next v =
         let clear : Clear s c at (to + 12) = clear-to fuel at to (rest stack) next v in
-        token-same s c size at (λ x p q. clear x p (omega (arith, r .past)))
+        token-same s c size at (λ x p q. clear x p (omega (arith, r .ends)))
         (λ (e : wordAt s at ≡ 1). absurd (omega (arith, r .tag)))
         (λ (e : wordAt s at ≡ 3). absurd (omega (arith, r .tag)))
     token-kept fuel at (Item (Prop len name value) to) r stack next v =
@@ -268,7 +198,7 @@ module _ (S : ℕ → Bytes → Bool) (place : ℕ) (strings s : Bytes) where
         (λ e. propAt-same s c size (at + 4) (λ x p q. clear x (omega arith) (omega arith)))
     token-kept fuel at (Item Nop to) r stack next v =
         let clear : Clear s c at (to + 12) = clear-to fuel at to stack next v in
-        token-same s c size at (λ x p q. clear x p (omega (arith, r .past)))
+        token-same s c size at (λ x p q. clear x p (omega (arith, r .ends)))
         (λ (e : wordAt s at ≡ 1). absurd (omega (arith, r .tag)))
         (λ (e : wordAt s at ≡ 3). absurd (omega (arith, r .tag)))
     token-kept fuel at End r stack next v =
@@ -285,15 +215,15 @@ module _ (S : ℕ → Bytes → Bool) (place : ℕ) (strings s : Bytes) where
       pub shape : (w : Walk) → judge host w ts ≡ judge other w us
       pub events : Veiled (Open S) stack next (eventsOf host ts) (eventsOf other us)
 
-    value-same : (fuel at len name value to : ℕ) → ReadsProp s at len name value to → (stack : List ℕ) (next : ℕ)
+    value-same : (fuel at len name value to : ℕ) → PropSeen s at len name value to → (stack : List ℕ) (next : ℕ)
         → Veil at stack next (saying host at (Item (Prop len name value) to) (eventsOf host (tokensFrom fuel s to)))
         → S (top stack) (stringAt strings name) ≡ false → part s value len ≡ part c value len
     value-same fuel at len name value to r stack next v o = part-same s c value len size
-        (λ x p q. elim (v x (omega (arith, r .start))) [
+        (λ x p q. elim (v x (omega (arith, r .begins))) [
           | inl e ↦ e
           | inr m ↦ elim m [
             | inl h ↦ never (S (top stack) (stringAt strings name)) (h .1) o
-            | inr h ↦ absurd (omega (arith, r .start, r .past, behind fuel to (place + x) stack next h .0))
+            | inr h ↦ absurd (omega (arith, r .begins, r .ends, behind fuel to (place + x) stack next h .0))
           ]
         ])
 
@@ -301,22 +231,22 @@ module _ (S : ℕ → Bytes → Bool) (place : ℕ) (strings s : Bytes) where
     part-size value len = simp (length-take, length-drop, size)
 
     -- behind a value
-    later-veil : (fuel at len name value to : ℕ) → ReadsProp s at len name value to → (stack : List ℕ) (next : ℕ)
+    later-veil : (fuel at len name value to : ℕ) → PropSeen s at len name value to → (stack : List ℕ) (next : ℕ)
         → Veil at stack next (saying host at (Item (Prop len name value) to) (eventsOf host (tokensFrom fuel s to)))
         → Veil to stack next (eventsOf host (tokensFrom fuel s to))
-    later-veil fuel at len name value to r stack next v x p = elim (v x (omega (arith, r .past))) [
+    later-veil fuel at len name value to r stack next v x p = elim (v x (omega (arith, r .ends))) [
       | inl e ↦ inl e
       | inr m ↦ elim m [
         | inl h ↦
             let b = in-value (record { place = place + at; name = stringAt strings name; value = part s value len }) (place + x) (h .0) in
             let l : length (part s value len) ≡ min len (length (drop value s)) = length-take len (drop value s) in
-            absurd (omega (arith, r .past, b .1))
+            absurd (omega (arith, r .ends, b .1))
         | inr h ↦ inr h
       ]
     ]
 
     -- what holds from the next place on holds from this one on, whichever token stands here
-    kept-token : (fuel at : ℕ) (k : Token) → Reads s at k
+    kept-token : (fuel at : ℕ) (k : Token) → Seen s at k
         → ((to : ℕ) (stack : List ℕ) (next : ℕ) → Veil to stack next (eventsOf host (tokensFrom fuel s to))
         → Kept stack next (tokensFrom fuel s to) (tokensFrom fuel c to))
         → (stack : List ℕ) (next : ℕ) → Veil at stack next (saying host at k (eventsOf host (following (tokensFrom fuel s) k)))
@@ -324,15 +254,15 @@ module _ (S : ℕ → Bytes → Bool) (place : ℕ) (strings s : Bytes) where
         (record { at = at; token = k } ∷ following (tokensFrom fuel c) k)
     unfolding judge eventsOf
     kept-token fuel at (Item (Begin len) to) r ih stack next v =
-        let w = ih to (next ∷ stack) (suc next) (λ x p. v x (omega (arith, r .past))) in
+        let w = ih to (next ∷ stack) (suc next) (λ x p. v x (omega (arith, r .ends))) in
         let clear : Clear s c at (to + 12) = clear-to fuel at to (next ∷ stack) (suc next) v in
-        let e : nodeNameAt s at len ≡ nodeNameAt c at len = part-same s c (at + 4) len size (λ x p q. clear x (omega arith) (omega (arith, r .past))) in
+        let e : nodeNameAt s at len ≡ nodeNameAt c at len = part-same s c (at + 4) len size (λ x p q. clear x (omega arith) (omega (arith, r .ends))) in
         record {
           shape = λ z. rw e (after-same _ _ (place + at) (opening z (nodeNameAt c at len)) (w .shape));
           events = rw e (both-open (w .events));
         }
     kept-token fuel at (Item EndNode to) r ih stack next v =
-        let w = ih to (rest stack) next (λ x p. v x (omega (arith, r .past))) in
+        let w = ih to (rest stack) next (λ x p. v x (omega (arith, r .ends))) in
         record { shape = λ z. after-same _ _ (place + at) (closing z) (w .shape); events = both-close (w .events) }
     kept-token fuel at (Item (Prop len name value) to) r ih stack next v =
         let w = ih to stack next (later-veil fuel at len name value to r stack next v) in
@@ -343,7 +273,7 @@ module _ (S : ℕ → Bytes → Bool) (place : ℕ) (strings s : Bytes) where
               (w .events);
         }
     kept-token fuel at (Item Nop to) r ih stack next v =
-        let w = ih to stack next (λ x p. v x (omega (arith, r .past))) in
+        let w = ih to stack next (λ x p. v x (omega (arith, r .ends))) in
         record { shape = λ z. w .shape z; events = w .events }
     kept-token fuel at End r ih stack next v = record { shape = λ z. rw size; events = veiled }
     kept-token fuel at Cut r ih stack next v = record { shape = λ z. refl; events = veiled }
@@ -353,8 +283,8 @@ module _ (S : ℕ → Bytes → Bool) (place : ℕ) (strings s : Bytes) where
     unfolding tokensFrom judge eventsOf
     kept zero at stack next v = record { shape = λ z. refl; events = veiled }
     kept (suc fuel) at stack next v =
-        rw (← token-kept fuel at (tokenAt s at) (token-reads s at) stack next v)
-        (kept-token fuel at (tokenAt s at) (token-reads s at) (kept fuel) stack next v)
+        rw (← token-kept fuel at (tokenAt s at) (token-seen s at) stack next v)
+        (kept-token fuel at (tokenAt s at) (token-seen s at) (kept fuel) stack next v)
 
     -- THE SAME SHAPE, AND THE SAME EVENTS BUT FOR WHAT IS HIDDEN
     pub shape-kept : Veil 0 [] 0 (eventsIn host) → shapeJudged host ≡ shapeJudged other

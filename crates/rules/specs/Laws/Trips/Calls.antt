@@ -9,7 +9,7 @@ use Rattle.rules.specs.Octets.{Bytes, be32, be64, words32, words64, clos
 use Rattle.rules.specs.Outcome.{Outcome, gives, refuses}
 use Rattle.rules.specs.Reservations.{Entry}
 use Rattle.rules.specs.Writer.{begun, closedNode, withProperty, withPhandle, beginBytes, endBytes, growth, propertyAt, startBytes, setBootCpu, beginJudged, beginNode, beginNodeData, endJudged, endNode, endNodeData, propertyJudged, property, propertyData, propertyStrings, badString, badList, phandleName, phandleJudged, phandle, phandleData, phandleStrings, phandleTable}
-use Rattle.rules.specs.Written.{Blocks, writeEvent, writeEvents, Call, bootCpu, begin, end, bytes, null, string, stringList, number32, number64, array32, array64, phandleCall, Desk, propertyCall, call, run, finished, written, hasSaid, said, bootSaid}
+use Rattle.rules.specs.Written.{Blocks, writeEvent, writeEvents, Call, bootCpu, begin, end, bytes, null, string, stringList, number32, number64, array32, array64, phandleCall, Desk, propertyCall, call, run, hasSaid, said, bootSaid}
 use Rattle.rules.specs.Laws.Octets.{length-put, take-put, put-nil}
 use Rattle.rules.specs.Laws.Verdicts.{then-passes, gives-refuses}
 use Rattle.rules.specs.Laws.Trips.Tests.{none-fails, roomy, beginTests, begin-tests, endTests, end-tests, holdTests, hold-tests, phandleTests, phandle-tests}

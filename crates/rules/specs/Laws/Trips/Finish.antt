@@ -9,7 +9,7 @@ use lib.ListN.{length, take, drop, length-append, length-drop, length-take, take
 use lib.Seq.{take-length, take-at, drop-at, length-take-le, drop-append-le}
 use Rattle.rules.specs.Ceilings.{blobCeiling}
 use Rattle.rules.specs.Octets.{Bytes, be32, zeros, put}
-use Rattle.rules.specs.Outcome.{Outcome, gives, refuses, passes, _then_}
+use Rattle.rules.specs.Outcome.{Outcome, gives, refuses, passes}
 use Rattle.rules.specs.Reservations.{Entry, anyInvalid, block}
 use Rattle.rules.specs.Writer.{total, headerBytes, headerOf, startBytes, startJudged, start, startData, finishJudged, finish, finishData}
 use Rattle.rules.specs.Written.{Blocks, writeEvents, blobWith, blobOf, Call, Desk, run, finished, started, written, said, bootSaid}

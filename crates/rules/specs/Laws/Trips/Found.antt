@@ -1,86 +1,22 @@
 -- The bytes of a token that was found: an item's tag, name, words, value and padding, as the grammar wants them.
-use mathlib.Core.Path.{_≡_, refl, sym, ap, _∙_}
+use mathlib.Core.Path.{_≡_, sym, ap, _∙_}
 use mathlib.Core.Bool.{true, false}
 use mathlib.Core.List.{_∷_, _++_}
 use Prim.Native.Nat.{ℕ, _+_, _-_, _≤_, _<_}
 use native.Mathlib.Nat.{add-zero}
 use native.Mathlib.Numerals.{add-one}
 use native.Mathlib.Omega.{arith}
-use lib.Dec.{eqb, leb}
 use lib.ListN.{length, take, drop, length-drop, take-append-drop}
 use lib.Seq.{drop-drop, drop-cons, getD-take, length-take-le}
-use borrow.Author.Tests.{eqb-true, leb-true, ltb-true}
+use borrow.Author.Tests.{ltb-true}
 use Rattle.rules.specs.Octets.{Bytes, wordAt, padded, part, nulIn, hasNul}
 use Rattle.rules.specs.Names.{propertyNameReads}
-use Rattle.rules.specs.Tokens.{whole, beginAt, propAt, tagged, tokenAt}
+use Rattle.rules.specs.Tokens.{whole}
 use Rattle.rules.specs.Events.{nodeNameAt, stringAt, propertyReads}
-use Rattle.rules.specs.declared.Token.{Token}
-use Rattle.rules.specs.declared.Token.the-variants.{Item, End, Cut}
-use Rattle.rules.specs.declared.Kind.the-variants.{Begin, EndNode, Prop, Nop}
 use Rattle.rules.specs.Laws.Tests.{and-true}
 use Rattle.rules.specs.Laws.Octets.{length-part, word-part, nul-byte, nul-before, has-nul-not}
-use Rattle.rules.specs.Laws.Tokens.{if-by}
+use Rattle.rules.specs.Laws.Tokens.{BeginSeen, PropSeen, TagSeen}
 use Rattle.rules.specs.Grammar.{Word, Pads, Stands}
-
--- ---- what a token says of its place
-
-pub record BeginSeen (s : Bytes) (at len next : ℕ) : Type 0 where
-  pub tag : wordAt s at ≡ 1
-  pub name : len ≡ nulIn (drop (at + 4) s)
-  pub ends : next ≡ at + 4 + padded (len + 1)
-  pub inside : next ≤ length s
-
-pub record PropSeen (s : Bytes) (at len name value next : ℕ) : Type 0 where
-  pub tag : wordAt s at ≡ 3
-  pub size : len ≡ wordAt s (at + 4)
-  pub offset : name ≡ wordAt s (at + 4 + 4)
-  pub begins : value ≡ at + 4 + 8
-  pub ends : next ≡ at + 4 + 8 + padded len
-  pub inside : next ≤ length s
-
-pub record TagSeen (s : Bytes) (at next v : ℕ) : Type 0 where
-  pub tag : wordAt s at ≡ v
-  pub ends : next ≡ at + 4
-  pub inside : at + 4 ≤ length s
-
-abbrev pub Seen : Bytes → ℕ → Token → Type 0
-Seen s at (Item (Begin len) next) = BeginSeen s at len next
-Seen s at (Item EndNode next) = TagSeen s at next 2
-Seen s at (Item (Prop len name value) next) = PropSeen s at len name value next
-Seen s at (Item Nop next) = TagSeen s at next 4
-Seen s at End = TagSeen s at (at + 4) 9
-Seen s at Cut = Unit {0}
-
-module _ (s : Bytes) (at : ℕ) (h : at + 4 ≤ length s) where
-  begin-seen : wordAt s at ≡ 1 → Seen s at (beginAt s (at + 4))
-  unfolding beginAt
-  begin-seen t =
-      let len : ℕ = nulIn (drop (at + 4) s) in
-      let next : ℕ = at + 4 + padded (len + 1) in
-      if-by (Seen s at) (leb next (length s)) (λ e. record { tag = t; name = refl; ends = refl; inside = leb-true next (length s) e }) (λ _. tt)
-
-  prop-seen : wordAt s at ≡ 3 → Seen s at (propAt s (at + 4))
-  unfolding propAt
-  prop-seen t =
-      let next : ℕ = at + 4 + 8 + padded (wordAt s (at + 4)) in
-      if-by (Seen s at) (leb (at + 4 + 8) (length s))
-      (λ _. if-by (Seen s at) (leb next (length s))
-      (λ e. record { tag = t; size = refl; offset = refl; begins = refl; ends = refl; inside = leb-true next (length s) e }) (λ _. tt))
-      (λ _. tt)
-
-  tagged-seen : (v : ℕ) → wordAt s at ≡ v → Seen s at (tagged v s (at + 4))
-  unfolding tagged
-  tagged-seen v t =
-      if-by (Seen s at) (eqb v 1) (λ e. begin-seen (t ∙ eqb-true v 1 e))
-      (λ _. if-by (Seen s at) (eqb v 2) (λ e. record { tag = t ∙ eqb-true v 2 e; ends = refl; inside = h })
-      (λ _. if-by (Seen s at) (eqb v 3) (λ e. prop-seen (t ∙ eqb-true v 3 e))
-      (λ _. if-by (Seen s at) (eqb v 4) (λ e. record { tag = t ∙ eqb-true v 4 e; ends = refl; inside = h })
-      (λ _. if-by (Seen s at) (eqb v 9) (λ e. record { tag = t ∙ eqb-true v 9 e; ends = refl; inside = h }) (λ _. tt)))))
-
-pub token-seen : (s : Bytes) (at : ℕ) → Seen s at (tokenAt s at)
-unfolding tokenAt
-token-seen s at =
-    if-by (Seen s at) (leb (at + 4) (length s)) (λ e. tagged-seen s at (leb-true (at + 4) (length s) e) (wordAt s at) refl) (λ _. tt)
 
 -- ---- its bytes
 

@@ -2,12 +2,12 @@
 use mathlib.Core.Path.{_≡_, refl, sym, ap, _∙_}
 use mathlib.Core.Bool.{false}
 use mathlib.Core.List.{_∷_, _++_, append-assoc}
-use Prim.Native.Nat.{ℕ, suc, _+_, _≤_, _<_}
+use Prim.Native.Nat.{ℕ, _+_, _≤_, _<_}
 use native.Mathlib.Nat.{add-zero}
 use native.Mathlib.Omega.{arith}
 use lib.ListN.{length, take, drop, length-append, length-drop, List·getD-append}
 use lib.Seq.{drop-at, take-at, drop-drop, getD-drop}
-use borrow.Author.Tests.{le-leb, ltb-false, lt-ltb}
+use borrow.Author.Tests.{le-leb, ltb-false}
 use Rattle.rules.specs.Octets.{Bytes, byteAt, wordAt, padded, part, nulIn, hasNul}
 use Rattle.rules.specs.Names.{propertyNameReads}
 use Rattle.rules.specs.Tokens.{beginAt, propAt, tagged, tokenAt}
@@ -16,6 +16,7 @@ use Rattle.rules.specs.declared.Token.the-variants.{Item, End}
 use Rattle.rules.specs.declared.Kind.the-variants.{Begin, EndNode, Prop, Nop}
 use Rattle.rules.specs.Laws.Octets.{nul-closed, nul-before}
 use Rattle.rules.specs.Grammar.{Word, Pads, Stands}
+use Rattle.rules.specs.Laws.Encoded.{string-ends, reads-ends}
 
 -- ---- bytes at a place
 
@@ -150,11 +151,7 @@ module _ (s : Bytes) (at : ℕ) (tag len off value pad r : Bytes) (offset : ℕ)
 -- a name that stands in the strings block is read there
 module _ (strings : Bytes) (offset : ℕ) (name : Bytes) (t : Stands strings offset name) where
   pub string-here : stringAt strings offset ≡ name
-  unfolding stringAt
-  string-here = rw (t .here, nul-here name (t .behind) (t .plain)) (take-at name (0 ∷ t .behind) (length name) refl)
+  string-here = string-ends strings name (t .behind) offset (t .here) (nul-here name (t .behind) (t .plain))
 
   pub reads-here : propertyReads strings offset ≡ propertyNameReads name
-  unfolding propertyReads
-  reads-here =
-      let l : length (name ++ 0 ∷ t .behind) ≡ length name + suc (length (t .behind)) = length-append name (0 ∷ t .behind) in
-      rw (string-here, t .here, nul-here name (t .behind) (t .plain), lt-ltb (length name) (length (name ++ 0 ∷ t .behind)) (omega arith))
+  reads-here = reads-ends strings name (t .behind) offset (t .here) (nul-here name (t .behind) (t .plain))

@@ -1,29 +1,28 @@
 -- The calls that events spell: where the events pass the shape and there is room, every call is accepted.
 use mathlib.Core.Path.{_≡_, refl, sym, ap, _∙_}
-use mathlib.Core.Bool.{Bool, true, false, not}
+use mathlib.Core.Bool.{Bool, true, false}
 use mathlib.Core.List.{List, [], _∷_, _++_}
 use Prim.Native.Nat.{ℕ, suc, _+_, _-_, _%_, _≤_, _<_}
 use native.Mathlib.Omega.{arith}
-use lib.Dec.{eqb}
 use lib.ListN.{length, length-append}
 use borrow.Author.Tests.{eq-eqb, ne-eqb, le-ltb, lt-leb}
 use Rattle.rules.specs.Ceilings.{blobCeiling, openCeiling}
 use Rattle.rules.specs.Octets.{Bytes}
 use Rattle.rules.specs.Outcome.{gives, passes}
-use Rattle.rules.specs.Names.{nodeNameValid, nodeNameReads, propertyNameValid, propertyNameReads}
+use Rattle.rules.specs.Names.{nodeNameValid, propertyNameValid, propertyNameReads}
 use Rattle.rules.specs.Reservations.{Entry}
 use Rattle.rules.specs.Writer.{State, room, impossible, beginBytes, endBytes, propertyBytes, nameOffset, nameGrowth, growth, propertyAt, startBytes, beginJudged, beginNode, beginNodeData, endJudged, endNode, endNodeData, propertyJudged, property, propertyData, propertyStrings}
-use Rattle.rules.specs.Written.{Blocks, writeEvent, writeEvents, Call, begin, end, bytes, Desk, propertyCall, call, run, finished, said, bootSaid, hasSaid, spelled}
+use Rattle.rules.specs.Written.{Blocks, writeEvent, writeEvents, Call, begin, end, bytes, Desk, propertyCall, call, run, said, bootSaid, hasSaid, spelled}
 use Rattle.rules.specs.Events.{Property, Event, opens, has, closes}
-use Rattle.rules.specs.Laws.Tests.{and-true}
 use Rattle.rules.specs.Laws.Octets.{length-put}
 use Rattle.rules.specs.Laws.Names.{node-empty, node-name-plain, property-name-plain, plain-closed}
 use Rattle.rules.specs.Laws.Nested.{Nested, finished as all-said, root, child, holds, shuts}
-use Rattle.rules.specs.Laws.Encoded.{length-begin, length-end, length-property}
 use Rattle.rules.specs.Laws.ReadBack.{structureOf, stringsOf, strings-grow}
 use Rattle.rules.specs.Laws.Trips.Tests.{first-passes, beginTests, begin-tests, endTests, end-tests, holdTests, hold-tests}
 use Rattle.rules.specs.Laws.Trips.Calls.{Held, begunDesk, heldDesk, closedDesk, call-held, run-on, goes-on}
 use Rattle.rules.specs.Laws.Trips.Finish.{length-start, data-length, strings-length}
+use Rattle.rules.specs.Laws.Writer.{length-begin, length-end, length-property}
+use Rattle.rules.specs.Laws.Shape.{reads-valid}
 
 -- ---- what a desk is ready for
 
@@ -222,10 +221,6 @@ module _ (rs : List Entry) (cpu : ℕ) (n m : ℕ) where
 
   strings-le : (strings : Bytes) (es : List Event) → length strings ≤ length (stringsOf strings es)
   strings-le strings es = let g = strings-grow strings es in rw (g .1, length-append strings (g .0)) (omega arith)
-
-  reads-valid : (name : Bytes) → nodeNameReads name ≡ true → nodeNameValid name ≡ true
-  unfolding nodeNameReads
-  reads-valid name h = and-true (not (eqb (length name) 0)) (nodeNameValid name) h .1
 
   property-valid : (name : Bytes) → propertyNameReads name ≡ true → propertyNameValid name ≡ true
   unfolding propertyNameReads

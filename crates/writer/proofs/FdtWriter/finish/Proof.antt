@@ -4,6 +4,7 @@ use Prim.Native.Nat.{_+_, _-_, _≤_}
 use native.Mathlib.Omega.{arith}
 use lib.ListN.{length}
 use denote.Ref.{now}
+use Rattle.rules.specs.Ceilings.{blobCeiling}
 use Rattle.rules.specs.Outcome.{refuses, passes}
 use Rattle.rules.specs.Writer.{headerBytes, finishJudged, finish, finishData, closedState}
 use Rattle.writer.specs.Meaning.{stateOf, numberOf}
@@ -23,12 +24,14 @@ enum-told : tie.Need-enum-told
 enum-told c = search needs
 
 add-off-dt-strings : tie.Need-add-off-dt-strings
+unfolding blobCeiling
 add-off-dt-strings c =
     let v : passes ≡ finishJudged (stateOf (c .before .before .before .before .before .before .args .self)) (length (now (c .before .before .before .before .before .before .args .«data»))) (length (now (c .before .before .before .before .before .before .args .strings))) = ap verdictOf (sym (c .before .enum-told .given .1)) ∙ c .before .before .before .finish .ensures in
     let p = finish-passed (stateOf (c .before .before .before .before .before .before .args .self)) (length (now (c .before .before .before .before .before .before .args .«data»))) (length (now (c .before .before .before .before .before .before .args .strings))) v in
     omega arith
 
 add-totalsize : tie.Need-add-totalsize
+unfolding blobCeiling
 add-totalsize c =
     let v : passes ≡ finishJudged (stateOf (c .before .before .before .before .before .before .args .self)) (length (now (c .before .before .before .before .before .before .args .«data»))) (length (now (c .before .before .before .before .before .before .args .strings))) = ap verdictOf (sym (c .before .enum-told .given .1)) ∙ c .before .before .before .finish .ensures in
     let p = finish-passed (stateOf (c .before .before .before .before .before .before .args .self)) (length (now (c .before .before .before .before .before .before .args .«data»))) (length (now (c .before .before .before .before .before .before .args .strings))) v in
@@ -44,18 +47,21 @@ put-bytes-requires : tie.Need-put-bytes-requires
 put-bytes-requires c κs = search needs
 
 cast-t21 : tie.Need-cast-t21
+unfolding blobCeiling
 cast-t21 c =
     let v : passes ≡ finishJudged (stateOf (c .before .before .before .before .before .before .before .before .before .before .before .before .before .before .before .before .args .self)) (length (now (c .before .before .before .before .before .before .before .before .before .before .before .before .before .before .before .before .args .«data»))) (length (now (c .before .before .before .before .before .before .before .before .before .before .before .before .before .before .before .before .args .strings))) = ap verdictOf (sym (c .before .before .before .before .before .before .before .before .before .before .before .enum-told .given .1)) ∙ c .before .before .before .before .before .before .before .before .before .before .before .before .before .finish .ensures in
     let p = finish-passed (stateOf (c .before .before .before .before .before .before .before .before .before .before .before .before .before .before .before .before .args .self)) (length (now (c .before .before .before .before .before .before .before .before .before .before .before .before .before .before .before .before .args .«data»))) (length (now (c .before .before .before .before .before .before .before .before .before .before .before .before .before .before .before .before .args .strings))) v in
     omega arith
 
 cast-t22 : tie.Need-cast-t22
+unfolding blobCeiling
 cast-t22 c =
     let v : passes ≡ finishJudged (stateOf (c .before .before .before .before .before .before .before .before .before .before .before .before .before .before .before .before .before .args .self)) (length (now (c .before .before .before .before .before .before .before .before .before .before .before .before .before .before .before .before .before .args .«data»))) (length (now (c .before .before .before .before .before .before .before .before .before .before .before .before .before .before .before .before .before .args .strings))) = ap verdictOf (sym (c .before .before .before .before .before .before .before .before .before .before .before .before .enum-told .given .1)) ∙ c .before .before .before .before .before .before .before .before .before .before .before .before .before .before .finish .ensures in
     let p = finish-passed (stateOf (c .before .before .before .before .before .before .before .before .before .before .before .before .before .before .before .before .before .args .self)) (length (now (c .before .before .before .before .before .before .before .before .before .before .before .before .before .before .before .before .before .args .«data»))) (length (now (c .before .before .before .before .before .before .before .before .before .before .before .before .before .before .before .before .before .args .strings))) v in
     omega arith
 
 cast-t23 : tie.Need-cast-t23
+unfolding blobCeiling
 cast-t23 c =
     let v : passes ≡ finishJudged (stateOf (c .before .before .before .before .before .before .before .before .before .before .before .before .before .before .before .before .before .args .self)) (length (now (c .before .before .before .before .before .before .before .before .before .before .before .before .before .before .before .before .before .args .«data»))) (length (now (c .before .before .before .before .before .before .before .before .before .before .before .before .before .before .before .before .before .args .strings))) = ap verdictOf (sym (c .before .before .before .before .before .before .before .before .before .before .before .before .enum-told .given .1)) ∙ c .before .before .before .before .before .before .before .before .before .before .before .before .before .before .finish .ensures in
     let p = finish-passed (stateOf (c .before .before .before .before .before .before .before .before .before .before .before .before .before .before .before .before .before .args .self)) (length (now (c .before .before .before .before .before .before .before .before .before .before .before .before .before .before .before .before .before .args .«data»))) (length (now (c .before .before .before .before .before .before .before .before .before .before .before .before .before .before .before .before .before .args .strings))) v in
@@ -65,6 +71,7 @@ cast-t24 : tie.Need-cast-t24
 cast-t24 c = search needs
 
 cast-t25 : tie.Need-cast-t25
+unfolding blobCeiling
 cast-t25 c =
     let v : passes ≡ finishJudged (stateOf (c .before .before .before .before .before .before .before .before .before .before .before .before .before .before .before .before .before .args .self)) (length (now (c .before .before .before .before .before .before .before .before .before .before .before .before .before .before .before .before .before .args .«data»))) (length (now (c .before .before .before .before .before .before .before .before .before .before .before .before .before .before .before .before .before .args .strings))) = ap verdictOf (sym (c .before .before .before .before .before .before .before .before .before .before .before .before .enum-told .given .1)) ∙ c .before .before .before .before .before .before .before .before .before .before .before .before .before .before .finish .ensures in
     let p = finish-passed (stateOf (c .before .before .before .before .before .before .before .before .before .before .before .before .before .before .before .before .before .args .self)) (length (now (c .before .before .before .before .before .before .before .before .before .before .before .before .before .before .before .before .before .args .«data»))) (length (now (c .before .before .before .before .before .before .before .before .before .before .before .before .before .before .before .before .before .args .strings))) v in
@@ -77,6 +84,7 @@ sub-t26 c =
     omega arith
 
 cast-t27 : tie.Need-cast-t27
+unfolding blobCeiling
 cast-t27 c =
     let v : passes ≡ finishJudged (stateOf (c .before .before .before .before .before .before .before .before .before .before .before .before .before .before .before .before .before .before .args .self)) (length (now (c .before .before .before .before .before .before .before .before .before .before .before .before .before .before .before .before .before .before .args .«data»))) (length (now (c .before .before .before .before .before .before .before .before .before .before .before .before .before .before .before .before .before .before .args .strings))) = ap verdictOf (sym (c .before .before .before .before .before .before .before .before .before .before .before .before .before .enum-told .given .1)) ∙ c .before .before .before .before .before .before .before .before .before .before .before .before .before .before .before .finish .ensures in
     let p = finish-passed (stateOf (c .before .before .before .before .before .before .before .before .before .before .before .before .before .before .before .before .before .before .args .self)) (length (now (c .before .before .before .before .before .before .before .before .before .before .before .before .before .before .before .before .before .before .args .«data»))) (length (now (c .before .before .before .before .before .before .before .before .before .before .before .before .before .before .before .before .before .before .args .strings))) v in

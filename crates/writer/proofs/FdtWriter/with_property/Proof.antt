@@ -6,6 +6,7 @@ use native.Mathlib.Nat.{add-zero}
 use lib.ListN.{length}
 use denote.Ref.{now}
 use borrow.Author.Tests.{lt-ltb, le-ltb}
+use Rattle.rules.specs.Ceilings.{blobCeiling}
 use Rattle.rules.specs.Laws.Octets.{lay-nil}
 use Rattle.rules.specs.Laws.Writer.{length-closed}
 use borrow.Author.Needs.{needs}
@@ -13,6 +14,7 @@ use Rattle.writer.proofs.FdtWriter.with_property.Statement.{statement}
 use Rattle.writer.proofs.FdtWriter.with_property.Tie as tie
 
 add-self : tie.Need-add-self
+unfolding blobCeiling
 add-self c = search needs
 
 returns : tie.Need-returns
@@ -25,6 +27,7 @@ add-self-2 : tie.Need-add-self-2
 add-self-2 c = search needs
 
 add-self-3 : tie.Need-add-self-3
+unfolding blobCeiling
 add-self-3 c = omega (arith, c .before .before .before .before .before .before .before .before .before .before .pre)
 
 same-length : tie.Need-same-length

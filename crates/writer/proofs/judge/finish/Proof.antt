@@ -8,6 +8,7 @@ use lib.ListN.{length}
 use denote.Ref.{now}
 use borrow.Author.Tests.{le-leb, lt-leb, eq-eqb, ne-eqb, lt-ltb, le-ltb, not-true, not-false}
 use native.Mathlib.Nat.{add-assoc}
+use Rattle.rules.specs.Ceilings.{blobCeiling}
 use Rattle.rules.specs.Writer.{room, impossible, finishJudged}
 use Rattle.writer.specs.Meaning.{stateOf}
 use Rattle.writer.proofs.Passed.{possible}
@@ -32,6 +33,7 @@ returns-2 c =
     rw (t1, t2)
 
 add-short : tie.Need-add-short
+unfolding blobCeiling
 add-short c =
     let p = possible (stateOf (c .before .before .before .before .before .args .w)) (c .before .before .before .before .before .args .data-lent) (c .before .before .before .before .before .args .strings-lent) (sym (c .before .before .before .before .impossible .ensures) ∙ c .before .before .before .if1 .left) in
     omega arith

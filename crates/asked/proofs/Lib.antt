@@ -1,0 +1,3 @@
+-- What the proofs of named nodes share.
+pub mod Ones
+pub mod Turns

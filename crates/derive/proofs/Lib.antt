@@ -1,0 +1,5 @@
+-- The laws that the proofs of this crate cite.
+pub mod Checks
+pub mod Marks
+pub mod Writing
+pub mod Joining

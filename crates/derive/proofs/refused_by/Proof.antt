@@ -1,0 +1,19 @@
+-- `refused_by` meets its contract.
+use mathlib.Core.Path.{refl, sym, ap}
+use Rattle.rules.specs.Derivation.{Derived}
+use Rattle.reader.specs.Answers.{refused as read}
+use borrow.Author.Needs.{needs}
+use Rattle.derive.proofs.refused_by.Statement.{statement}
+use Rattle.derive.proofs.refused_by.Tie as tie
+
+enum-told : tie.Need-enum-told
+enum-told c = search needs
+
+returns : tie.Need-returns
+returns c = sym (ap (read {A = Derived}) (c .enum-told .given .1))
+
+returns-2 : tie.Need-returns-2
+returns-2 c = refl
+
+pub refused-by-spec : {M : Type 1} → statement M
+refused-by-spec = tie.close (tie.spec enum-told returns returns-2)

@@ -1,0 +1,220 @@
+-- From the start nodes to the list: what each part hands to the next.
+use mathlib.Core.Path.{_≡_, refl, sym, ap, _∙_}
+use mathlib.Core.Logic.{inl, inr}
+use mathlib.Core.Bool.{not, _&&_}
+use mathlib.Core.List.{List, [], _∷_, _++_, append-nil, reverse, List·Memᴰ·head, List·Memᴰ·tail, List·Memᴰ·not-nil, List·Memᴰ·cases-cons, Memᴰ·cast}
+use Prim.Native.Nat.{ℕ, suc, _+_, _-_, _≤_, _<_}
+use native.Mathlib.Omega.{arith}
+use lib.Dec.{eqb}
+use lib.ListN.{length, take, drop}
+use Rattle.rules.specs.Ceilings.{nodeCeiling, workWords}
+use Rattle.rules.specs.Octets.{Bytes, put}
+use Rattle.rules.specs.Blob.{Block}
+use Rattle.rules.specs.Lists.{keep, sort, fresh}
+use Rattle.rules.specs.Tree.{Tree, frame, below, path}
+use Rattle.rules.specs.References.{edition1, targets}
+use Rattle.rules.specs.Listing.{_∈_, nodesBelow, gather, givenNodes, starts, work, found, reachedList, within, listed}
+use Rattle.rules.specs.Space.{stackAt}
+use Rattle.rules.specs.Laws.Octets.{length-lay, lay-put, part-put, drop-put}
+use Rattle.rules.specs.Laws.Lists.{Distinct, none, more, not-oneOf, fresh-new}
+use Rattle.rules.specs.Laws.Tabled.{treeIn, tree-length}
+use Rattle.rules.specs.Laws.Listing.{starts-of, of-starts}
+use Rattle.rules.specs.Laws.Kept.{Kept, lay-alike, tree-alike, marks-behind, list-behind, stack-behind, names-behind, names-inside}
+use Rattle.order.specs.Starts.{Asked, Started}
+use Rattle.order.specs.Laws.{insert-length, start-small, below-starts}
+use Rattle.listing.specs.State.{listIn, stackIn, Apart, Piled, Gains}
+use Rattle.listing.specs.Given.{belowIn, Gathers}
+use Rattle.listing.specs.Walk.{Walked}
+use Rattle.listing.specs.Sift.{spared, Sifted}
+use Rattle.listing.specs.Lists.{Reaches, Lists}
+use Rattle.listing.proofs.Fresh.{Alike, alike-by, gather-none, work-same}
+use Rattle.listing.proofs.Parts.{apart-trans, apart-kept, list-length}
+use Rattle.listing.proofs.Gained.{gains-list}
+
+-- ---- lists
+
+sort-length : {A : Type 0} (key : A → Bytes) (l : List A) → length (sort key l) ≡ length l
+unfolding sort
+sort-length key [] = refl
+sort-length key (x ∷ l) = insert-length key x (sort key l) ∙ ap suc (sort-length key l)
+
+fresh-distinct : {l : List ℕ} → Distinct l → (noted : List ℕ) → ((x : ℕ) → x ∈ l → x ∈ noted → ⊥) → fresh noted l ≡ l
+unfolding fresh
+fresh-distinct none noted h = refl
+fresh-distinct (more {x = x} {l = l} n d) noted h =
+    fresh-new noted l x (not-oneOf x noted (λ m. h x (List·Memᴰ·head refl) m))
+    ∙ ap (λ (k : List ℕ). x ∷ k) (fresh-distinct d (x ∷ noted) apart)
+  where
+    apart : (y : ℕ) → y ∈ l → y ∈ x ∷ noted → ⊥
+    apart y p q = elim (List·Memᴰ·cases-cons q) [ inl e ↦ n (Memᴰ·cast (sym e) p) | inr k ↦ h y (List·Memᴰ·tail p) k ]
+
+gather-by : (f g : ℕ → List ℕ) (cs noted : List ℕ) → ((c : ℕ) → c ∈ cs → f c ≡ g c) → gather f noted cs ≡ gather g noted cs
+unfolding gather
+gather-by f g [] noted h = refl
+gather-by f g (c ∷ cs) noted h =
+    ap (λ (l : List ℕ). fresh noted (f c) ++ l) (gather-by f g cs (fresh noted (f c) ++ noted) (λ d m. h d (List·Memᴰ·tail m)))
+    ∙ ap (λ (l : List ℕ). fresh noted l ++ gather g (fresh noted l ++ noted) cs) (h c (List·Memᴰ·head refl))
+
+no-list : (ws : List ℕ) → listIn ws 0 ≡ []
+unfolding listIn
+no-list ws = refl
+
+-- ---- the start nodes
+
+module _ (b : Block) (ws : List ℕ) (count : ℕ) (conf : List ℕ) (q : Asked b ws count conf) where
+  abbrev tree : Tree
+  tree = treeIn b ws count
+
+  abbrev first : List ℕ
+  first = starts (frame tree) conf
+
+  small : (x : ℕ) → x ∈ conf → x < length tree
+  small x m = omega (arith, q .small x m, tree-length b ws count 0)
+
+  module _ (s : ℕ) (few : s ≤ count) (ws₁ : List ℕ) (started : Started b ws count conf s ws₁) where
+    fits : stackAt + length first ≤ workWords
+    fits = omega (arith, few, started .many, q .kept .few, names-behind, names-inside)
+
+    laid : ws₁ ≡ put ws stackAt first
+    laid = started .laid ∙ lay-put ws stackAt first (omega (arith, fits, q .kept .room))
+
+    pub start-apart : Apart ws ws₁
+    start-apart = record {
+      alike = rw (started .laid) (lay-alike ws stackAt first (omega (arith, marks-behind, list-behind, stack-behind)));
+      size = ap length (started .laid) ∙ length-lay ws stackAt first;
+      rest =
+          let e : workWords ≡ stackAt + length first + (workWords - (stackAt + length first)) = omega (arith, fits) in
+          ap (drop workWords) laid
+          ∙ ap (λ (k : ℕ). drop k (put ws stackAt first)) e
+          ∙ drop-put ws stackAt first (workWords - (stackAt + length first)) (omega (arith, fits, q .kept .room))
+          ∙ ap (λ (k : ℕ). drop k ws) (sym e);
+    }
+
+    start-stack : stackIn ws₁ s ≡ first
+    unfolding stackIn
+    start-stack =
+        ap (λ (vs : List ℕ). take s (drop stackAt vs)) laid
+        ∙ ap (λ (k : ℕ). take k (drop stackAt (put ws stackAt first))) (started .many)
+        ∙ part-put ws stackAt first (omega (arith, fits, q .kept .room))
+
+    start-nodes : (x : ℕ) → x ∈ first → x < count
+    start-nodes x m = omega (arith, start-small tree (q .kept .formed) conf (q .once) small x m, tree-length b ws count 0)
+
+    pub start-room : workWords ≤ length ws₁
+    start-room = omega (arith, q .kept .room, start-apart .size)
+
+    -- ---- the configured nodes
+
+    module _ (ws₂ : List ℕ) (n₂ : ℕ) (g : Gains count ws₁ 0 conf ws₂ n₂ []) where
+      conf-list : listIn ws₂ n₂ ≡ conf
+      conf-list =
+          gains-list count ws₁ 0 conf ws₂ n₂ g
+          ∙ ap (λ (l : List ℕ). l ++ fresh l conf) (no-list ws₁)
+          ∙ fresh-distinct (q .once) [] (λ x m k. List·Memᴰ·not-nil k)
+
+      conf-stack : stackIn ws₂ s ≡ first
+      conf-stack = g .stack s ∙ start-stack
+
+      conf-apart : Apart ws ws₂
+      conf-apart = apart-trans start-apart (g .apart)
+
+      pub conf-nodes : (x : ℕ) → x ∈ stackIn ws₂ s → x < count
+      conf-nodes = rw conf-stack start-nodes
+
+      -- ---- the given nodes
+
+      module _ (ws₃ : List ℕ) (n₃ : ℕ) (h : (a : Block) → Gathers count ws₂ n₂ (belowIn a ws₂ count s) conf ws₃ n₃ []) where
+        below-one : (c : ℕ) → c ∈ conf → belowIn b ws₂ count s c ≡ nodesBelow (frame tree) c
+        below-one c m =
+            ap (λ (t : Tree). keep (below t c) (stackIn ws₂ s)) (tree-alike b ws ws₂ count (q .kept .few) (conf-apart .alike))
+            ∙ ap (keep (below tree c)) conf-stack
+            ∙ sym (below-starts tree (q .kept .formed) conf (q .once) small c m)
+
+        given-list : listIn ws₃ n₃ ≡ givenNodes (frame tree) conf
+        unfolding givenNodes
+        given-list =
+            sym (append-nil (listIn ws₃ n₃))
+            ∙ ap (λ (l : List ℕ). listIn ws₃ n₃ ++ l) (sym (gather-none (belowIn b ws₂ count s) (listIn ws₃ n₃)))
+            ∙ h b .list
+            ∙ ap (λ (l : List ℕ). l ++ gather (belowIn b ws₂ count s) l conf) conf-list
+            ∙ ap (λ (l : List ℕ). conf ++ l) (gather-by (belowIn b ws₂ count s) (nodesBelow (frame tree)) conf conf below-one)
+
+        given-stack : stackIn ws₃ s ≡ first
+        given-stack = h b .stack s ∙ conf-stack
+
+        given-apart : Apart ws ws₃
+        given-apart = apart-trans conf-apart (h b .apart)
+
+        given-many : n₃ ≡ s
+        unfolding starts
+        given-many =
+            sym (list-length ws₃ (h b .marked .room) n₃ (omega (arith, h b .marked .short, h b .marked .few)))
+            ∙ ap length given-list
+            ∙ sym (sort-length (path tree) (givenNodes (frame tree) conf))
+            ∙ sym (started .many)
+
+        pub given-kept : Kept b ws₃ count
+        given-kept = apart-kept b ws ws₃ count given-apart (q .kept)
+
+        pub given-piled : Piled ws₃ count n₃ s
+        given-piled = record {
+          marked = h b .marked;
+          least = omega (arith, given-many);
+          nodes = rw given-stack start-nodes;
+        }
+
+        -- ---- what is reached
+
+        module _ (ws₄ : List ℕ) (n₄ : ℕ) (w : Walked b ws₃ count n₃ s ws₄ n₄) where
+          same : Alike (givenNodes (frame tree) conf) first
+          same = alike-by (givenNodes (frame tree) conf) first
+              (of-starts edition1 tree (q .kept .formed) conf (q .once) small)
+              (starts-of edition1 tree (q .kept .formed) conf (q .once) small)
+
+          reached-list : listIn ws₄ n₄ ≡ reachedList edition1 tree conf
+          unfolding reachedList found
+          reached-list =
+              let given : List ℕ = givenNodes (frame tree) conf in
+              let k : count + s - n₃ ≡ length tree = omega (arith, given-many, tree-length b ws count 0) in
+              w .list
+              ∙ ap (λ (t : Tree). listIn ws₃ n₃ ++ work (targets edition1 t) (count + s - n₃) (reverse (stackIn ws₃ s)) (listIn ws₃ n₃))
+              (tree-alike b ws ws₃ count (q .kept .few) (given-apart .alike))
+              ∙ ap (λ (l : List ℕ). l ++ work (targets edition1 tree) (count + s - n₃) (reverse (stackIn ws₃ s)) l) given-list
+              ∙ ap (λ (l : List ℕ). given ++ work (targets edition1 tree) (count + s - n₃) (reverse l) given) given-stack
+              ∙ ap (λ (j : ℕ). given ++ work (targets edition1 tree) j (reverse first) given) k
+              ∙ ap (λ (l : List ℕ). given ++ l) (work-same (targets edition1 tree) (length tree) (reverse first) given first same)
+
+          reached-short : n₄ ≤ nodeCeiling
+          reached-short = omega (arith, w .marked .short, w .marked .few)
+
+          pub reaches : Reaches b ws count conf ws₄ n₄
+          unfolding listIn
+          reaches = record {
+            apart = apart-trans given-apart (w .apart);
+            short = reached-short;
+            many = sym (list-length ws₄ (w .marked .room) n₄ reached-short) ∙ ap length reached-list;
+            list = reached-list;
+          }
+
+-- ---- what is listed
+
+module _ (b : Block) (ws : List ℕ) (count : ℕ) (conf excl : List ℕ) (k : Kept b ws count) (vs : List ℕ) (n : ℕ) (r : Reaches b ws count conf vs n)
+    (us : List ℕ) (m : ℕ) (s : Sifted b vs count excl n us m) where
+  listed-list : listIn us m ≡ listed edition1 (treeIn b ws count) conf excl
+  unfolding listed listIn
+  listed-list =
+      s .list
+      ∙ ap (λ (t : Tree). keep (λ (x : ℕ). not (eqb x 0) && not (within (frame t) excl x)) (listIn vs n)) (tree-alike b ws vs count (k .few) (r .apart .alike))
+      ∙ ap (keep (spared b ws count excl)) (r .list)
+
+  short : m ≤ nodeCeiling
+  short = omega (arith, s .short, r .short)
+
+  pub lists : Lists b ws count conf excl us m
+  unfolding listIn
+  lists = record {
+    apart = apart-trans (r .apart) (s .apart);
+    short = short;
+    many = sym (list-length us (omega (arith, k .room, r .apart .size, s .apart .size)) m short) ∙ ap length listed-list;
+    list = listed-list;
+  }

@@ -1,0 +1,4 @@
+-- The laws that the proofs of this crate cite.
+pub mod Tests
+pub mod Regions
+pub mod Turns

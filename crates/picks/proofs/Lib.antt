@@ -1,0 +1,4 @@
+-- The laws that the proofs of this crate cite.
+pub mod Places
+pub mod Marking
+pub mod Coding

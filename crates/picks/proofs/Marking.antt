@@ -1,0 +1,271 @@
+-- Marks: cleared, set one by one, and set along the way up from a node.
+use mathlib.Core.Path.{_≡_, refl, sym, ap, ap₂, _∙_}
+use mathlib.Core.Logic.{_⊎_, inl, inr}
+use mathlib.Core.Bool.{Bool, true, false, _||_}
+use mathlib.Core.List.{List, [], _∷_, _++_}
+use Prim.Native.Nat.{ℕ, zero, suc, _+_, _-_, _≤_, _<_}
+use native.Mathlib.Omega.{arith}
+use native.Mathlib.Numerals.{add-one}
+use lib.Dec.{eqb}
+use lib.ListN.{length, getD, drop, length-take, length-drop}
+use lib.Seq.{take-suc, getD-drop, getD-take, ext-getD}
+use borrow.Author.Tests.{eqb-true, eqb-false, eq-eqb, ne-eqb}
+use Rattle.rules.specs.Ceilings.{nodeCeiling, workWords}
+use Rattle.rules.specs.Octets.{lay}
+use Rattle.rules.specs.Blob.{Block}
+use Rattle.rules.specs.Lists.{oneOf, any}
+use Rattle.rules.specs.Tree.{Node, Tree, node, below, climb}
+use Rattle.rules.specs.Space.{tableWords, marksAt, listAt, stackAt, namesAt}
+use Rattle.rules.specs.Laws.Tests.{by-test, by-le}
+use Rattle.rules.specs.Laws.Octets.{lay-one-same, lay-one-other}
+use Rattle.rules.specs.Laws.Kept.{Kept, Only, only-none, only-then, only-wide, only-one, only-tree, only-kept}
+use Rattle.rules.specs.Laws.Tabled.{treeIn, tree-length, node-in}
+use Rattle.picks.specs.Marks.{marked, listIn, Listed, Keeps, Unmarked, Noted}
+use Rattle.picks.specs.Codes.{one-any}
+use Rattle.picks.proofs.Places.{Apart, apart}
+
+-- ---- one word
+
+-- a mark that is set, and the others
+module _ (ws : List ℕ) (at x : ℕ) (h : at + x < length ws) where
+  pub marked-set : (y : ℕ) → marked (lay ws (at + x) (1 ∷ [])) at y ≡ (eqb y x || marked ws at y)
+  marked-set y = by-test (eqb y x)
+      (λ e. let q : y ≡ x = eqb-true y x e in rw (e, q, lay-one-same ws (at + x) 1 0 h))
+      (λ e. rw (e, lay-one-other ws (at + x) 1 0 (at + y) (λ q. eqb-false y x e (omega arith))))
+
+-- ---- cleared
+
+pub record Cleared (at n : ℕ) (ws vs : List ℕ) (i : ℕ) : Type 0 where
+  pub only : Only at (at + n) ws vs
+  pub zero : (k : ℕ) → k < i → getD vs (at + k) 0 ≡ 0
+
+pub cleared-none : (at n : ℕ) (ws : List ℕ) → Cleared at n ws ws 0
+cleared-none at n ws = record { only = only-none ws; zero = λ k h. absurd (let z : ⊥ = omega arith in z) }
+
+pub cleared-more : (at n : ℕ) (ws vs us : List ℕ) (i : ℕ) → at + n ≤ length ws → Cleared at n ws vs i → i < n → us ≡ lay vs (at + i) (0 ∷ []) → Cleared at n ws us (i + 1)
+cleared-more at n ws vs us i room c h e = record {
+  only = only-then (c .only) (rw e (only-one vs (at + i) 0 (omega arith) (omega arith)));
+  zero = λ k l. rw e (by-test (eqb k i)
+      (λ q. let z : k ≡ i = eqb-true k i q in rw z (lay-one-same vs (at + i) 0 0 (omega (arith, c .only .size))))
+      (λ q. lay-one-other vs (at + i) 0 0 (at + k) (λ z. eqb-false k i q (omega arith)) ∙ c .zero k (omega (arith, eqb-false k i q))));
+}
+
+-- ---- the way up
+
+or-none : (a : Bool) → (a || false) ≡ a
+or-none true = refl
+or-none false = refl
+
+or-turn : (a b c d : Bool) → a ≡ d → ((a || b) || c) ≡ (b || (d || c))
+or-turn true true c d e = refl
+or-turn true false c d e = rw (← e)
+or-turn false true c d e = refl
+or-turn false false c d e = rw (← e)
+
+eqb-swap : (x y : ℕ) → eqb x y ≡ eqb y x
+eqb-swap x y = by-test (eqb x y)
+    (λ e. e ∙ sym (eq-eqb y x (sym (eqb-true x y e))))
+    (λ e. e ∙ sym (ne-eqb y x (λ q. eqb-false x y e (sym q))))
+
+climb-zero : (t : Tree) (left p : ℕ) → climb t left p 0 ≡ false
+unfolding climb
+climb-zero t zero p = refl
+climb-zero t (suc left) p = refl
+
+climb-step : (t : Tree) (left p at : ℕ) → 0 < left → 0 < at → climb t left p at ≡ (eqb (node t at .parent) p || climb t (left - 1) p (node t at .parent))
+unfolding climb
+climb-step t zero p at h g = absurd (let z : ⊥ = omega arith in z)
+climb-step t (suc left) p zero h g = absurd (let z : ⊥ = omega arith in z)
+climb-step t (suc left) p (suc at) h g = let e : suc left - 1 ≡ left = omega arith in rw e
+
+pub record Climbing (count : ℕ) (ws vs : List ℕ) (j left at : ℕ) : Type 0 where
+  pub only : Only namesAt workWords ws vs
+  pub inside : at < count
+  pub marks : (b : Block) (x : ℕ) → x < count → (marked vs namesAt x || climb (treeIn b ws count) left x at) ≡ (marked ws namesAt x || below (treeIn b ws count) x j)
+
+pub climbing-first : (count : ℕ) (ws : List ℕ) (j : ℕ) → j < count → Climbing count ws ws j j j
+climbing-first count ws j h = record { only = only-none ws; inside = h; marks = λ b x l. refl }
+
+module _ (count : ℕ) (ws : List ℕ) (k : Keeps ws count) where
+  table-names : tableWords ≤ namesAt
+  table-names = omega (arith, apart .table, apart .marks, apart .list, apart .stack)
+
+  -- a parent's number is smaller, for any block
+  pub parent-less : (b : Block) (vs : List ℕ) → Only namesAt workWords ws vs → (at : ℕ) → 0 < at → at < count → node (treeIn b vs count) at .parent < at
+  parent-less b vs o zero g h = absurd (let z : ⊥ = omega arith in z)
+  parent-less b vs o (suc at) g h =
+      let e : node (treeIn b vs count) (suc at) .parent ≡ node (treeIn (k .0) vs count) (suc at) .parent =
+      ap (λ (n : Node). n .parent) (node-in b vs count (suc at) h) ∙ ap (λ (n : Node). n .parent) (sym (node-in (k .0) vs count (suc at) h)) in
+      let f : node (treeIn (k .0) vs count) (suc at) .parent ≡ node (treeIn (k .0) ws count) (suc at) .parent =
+      ap (λ (t : Tree). node t (suc at) .parent) (only-tree (k .0) count table-names (k .1 .few) o) in
+      omega (arith, k .1 .formed .up at (omega (arith, tree-length (k .0) ws count 0)), e, f)
+
+  module _ (vs : List ℕ) (j left at : ℕ) (c : Climbing count ws vs j left at) where
+    pub climbing-done : (left ≡ 0) ⊎ (at ≡ 0) → (b : Block) (x : ℕ) → x < count → marked vs namesAt x ≡ (marked ws namesAt x || below (treeIn b ws count) x j)
+    unfolding climb
+    climbing-done (inl e) b x h = sym (or-none (marked vs namesAt x)) ∙ rw e at (c .marks b x h)
+    climbing-done (inr e) b x h =
+        let z : climb (treeIn b ws count) left x at ≡ false = ap (climb (treeIn b ws count) left x) e ∙ climb-zero (treeIn b ws count) left x in
+        sym (or-none (marked vs namesAt x)) ∙ ap (λ (d : Bool). marked vs namesAt x || d) (sym z) ∙ c .marks b x h
+
+    -- the parent is a node below the ceiling
+    pub up-small : 0 < at → (p : ℕ) → ((b : Block) → p ≡ node (treeIn b vs count) at .parent) → p < nodeCeiling
+    up-small g p q = omega (arith, q (k .0), parent-less (k .0) vs (c .only) at g (c .inside), c .inside, k .1 .few)
+
+    pub climbing-more : 0 < left → 0 < at → (p : ℕ) → ((b : Block) → p ≡ node (treeIn b vs count) at .parent) → (us : List ℕ) → us ≡ lay vs (namesAt + p) (1 ∷ [])
+        → Climbing count ws us j (left - 1) p
+    climbing-more h g p q us e = record {
+      only = only-then (c .only) (rw e (only-one vs (namesAt + p) 1 (omega arith) (omega (arith, apart .names, less, few))));
+      inside = omega (arith, less);
+      marks = λ b x l.
+          let t : Tree = treeIn b ws count in
+          let u : p ≡ node t at .parent = q b ∙ ap (λ (s : Tree). node s at .parent) (only-tree b count table-names few (c .only)) in
+          ap (λ (zs : List ℕ). marked zs namesAt x || climb t (left - 1) x p) e
+          ∙ ap (λ (d : Bool). d || climb t (left - 1) x p) (marked-set vs namesAt p room x)
+          ∙ or-turn (eqb x p) (marked vs namesAt x) (climb t (left - 1) x p) (eqb p x) (eqb-swap x p)
+          ∙ ap (λ (y : ℕ). marked vs namesAt x || (eqb y x || climb t (left - 1) x y)) u
+          ∙ ap (λ (d : Bool). marked vs namesAt x || d) (sym (climb-step t left x at h g))
+          ∙ c .marks b x l;
+    }
+      where
+        few : count ≤ nodeCeiling
+        few = k .1 .few
+
+        less : p < at
+        less = omega (arith, q (k .0), parent-less (k .0) vs (c .only) at g (c .inside))
+
+        room : namesAt + p < length vs
+        room = omega (arith, apart .names, c .only .size, k .1 .room, less, c .inside, few)
+
+-- ---- the nodes of the list
+
+any-last : (f : ℕ → Bool) (l : List ℕ) (j : ℕ) → any f (l ++ (j ∷ [])) ≡ (f j || any f l)
+unfolding any
+any-last f [] j = refl
+any-last f (x ∷ l) j = rw (any-last f l j) (or-shift (f x) (f j) (any f l))
+  where
+    or-shift : (a b c : Bool) → (a || (b || c)) ≡ (b || (a || c))
+    or-shift true true c = refl
+    or-shift true false c = refl
+    or-shift false true c = refl
+    or-shift false false c = refl
+
+list-more : (ws : List ℕ) (k : ℕ) → listAt + k < length ws → listIn ws (k + 1) ≡ listIn ws k ++ (getD ws (listAt + k) 0 ∷ [])
+list-more ws k h =
+    rw (add-one k) (take-suc (drop listAt ws) k 0 (simp length-drop (omega arith)) ∙ ap (λ (x : ℕ). listIn ws k ++ (x ∷ [])) (getD-drop listAt ws k 0))
+
+module _ (count : ℕ) (ws : List ℕ) (keeps : Keeps ws count) where
+  pub noted-first : Unmarked ws → Noted count ws ws (listIn ws 0)
+  unfolding oneOf any
+  noted-first u =
+      let few : count ≤ nodeCeiling = keeps .1 .few in
+      record {
+        only = only-none ws;
+        list = λ i g h. refl;
+        own = λ x h. rw (u .own x (omega (arith, few)));
+        over = λ b x h. rw (u .over x (omega (arith, few)));
+      }
+
+  module _ (vs : List ℕ) (k : ℕ) (n : Noted count ws vs (listIn ws k)) (small : k < nodeCeiling) (j : ℕ) (e : j ≡ getD vs (listAt + k) 0) (inside : getD ws (listAt + k) 0 < count) where
+    same-node : j ≡ getD ws (listAt + k) 0
+    same-node = e ∙ n .list (listAt + k) (omega arith) (omega (arith, apart .list))
+
+    pub node-inside : j < count
+    node-inside = omega (arith, same-node, inside)
+
+    -- the mark of the node itself leaves the table
+    pub noted-keeps : Keeps (lay vs (marksAt + j) (1 ∷ [])) count
+    noted-keeps = (keeps .0, only-kept (keeps .0) count (apart .table) (only-then (n .only) (only-one vs (marksAt + j) 1 (omega arith) (omega (arith, apart .marks, apart .list, apart .stack, apart .names, node-inside, keeps .1 .few)))) (keeps .1))
+
+    more : (us : List ℕ) → Only namesAt workWords (lay vs (marksAt + j) (1 ∷ [])) us
+        → ((b : Block) (x : ℕ) → x < count → marked us namesAt x ≡ (marked (lay vs (marksAt + j) (1 ∷ [])) namesAt x || below (treeIn b (lay vs (marksAt + j) (1 ∷ [])) count) x j))
+        → Noted count ws us (listIn ws (k + 1))
+    more us o m = record {
+      only = only-then first (only-wide (omega (arith, a .marks, a .list, a .stack)) (omega arith) o);
+      list = λ i g h. o .before i (omega (arith, a .stack, h)) ∙ lay-one-other vs (marksAt + j) 1 0 i (λ q. omega (arith, a .marks, g, node-inside, few)) ∙ n .list i g h;
+      own = λ x h.
+          ap (λ (y : ℕ). eqb y 1) (o .before (marksAt + x) (omega (arith, a .marks, a .list, a .stack, few)))
+          ∙ marked-set vs marksAt j room x
+          ∙ ap (λ (d : Bool). eqb x j || d) (n .own x h ∙ one-any x (listIn ws k))
+          ∙ sym (any-last (eqb x) (listIn ws k) j)
+          ∙ ap (any (eqb x)) (sym grown)
+          ∙ sym (one-any x (listIn ws (k + 1)));
+      over = λ b x h.
+          let t : Tree = treeIn b ws count in
+          m b x h
+          ∙ ap (λ (y : ℕ). eqb y 1 || below (treeIn b (lay vs (marksAt + j) (1 ∷ [])) count) x j) (lay-one-other vs (marksAt + j) 1 0 (namesAt + x) (λ q. omega (arith, a .marks, a .list, a .stack, node-inside, few)))
+          ∙ ap (λ (s : Tree). marked vs namesAt x || below s x j) (only-tree b count (a .table) few first)
+          ∙ ap (λ (d : Bool). d || below t x j) (n .over b x h)
+          ∙ or-swap (any (below t x) (listIn ws k)) (below t x j)
+          ∙ sym (any-last (below t x) (listIn ws k) j)
+          ∙ ap (any (below t x)) (sym grown);
+    }
+      where
+        a : Apart
+        a = apart
+
+        few : count ≤ nodeCeiling
+        few = keeps .1 .few
+
+        room : marksAt + j < length vs
+        room = omega (arith, a .marks, a .list, a .stack, a .names, n .only .size, keeps .1 .room, node-inside, few)
+
+        first : Only marksAt workWords ws (lay vs (marksAt + j) (1 ∷ []))
+        first = only-then (n .only) (only-one vs (marksAt + j) 1 (omega arith) (omega (arith, a .marks, a .list, a .stack, a .names, node-inside, few)))
+
+        grown : listIn ws (k + 1) ≡ listIn ws k ++ (j ∷ [])
+        grown = list-more ws k (omega (arith, a .list, a .stack, a .names, keeps .1 .room)) ∙ ap (λ (x : ℕ). listIn ws k ++ (x ∷ [])) (sym same-node)
+
+        or-swap : (a b : Bool) → (a || b) ≡ (b || a)
+        or-swap true true = refl
+        or-swap true false = refl
+        or-swap false true = refl
+        or-swap false false = refl
+
+    pub noted-more : (mid : List ℕ) → mid ≡ lay vs (marksAt + j) (1 ∷ []) → (us : List ℕ) → Only namesAt workWords mid us
+        → ((b : Block) (x : ℕ) → x < count → marked us namesAt x ≡ (marked mid namesAt x || below (treeIn b mid count) x j))
+        → Noted count ws us (listIn ws (k + 1))
+    noted-more mid d us o m = more us (rw (← d) o) (rw (← d) m)
+
+pub noted-done : (count : ℕ) (ws vs : List ℕ) (k n : ℕ) → k ≤ n → n ≤ k → Noted count ws vs (listIn ws k) → Noted count ws vs (listIn ws n)
+noted-done count ws vs k n h g m = let e : k ≡ n = omega arith in rw (← e) m
+
+-- ---- cleared first
+
+module _ (count : ℕ) (ws : List ℕ) (keeps : Keeps ws count) (n : ℕ) (h : n ≤ nodeCeiling) (vs us : List ℕ)
+    (c : Only marksAt (marksAt + nodeCeiling) ws vs × ((i : ℕ) → i < nodeCeiling → getD vs (marksAt + i) 0 ≡ 0))
+    (d : Only namesAt (namesAt + nodeCeiling) vs us × ((i : ℕ) → i < nodeCeiling → getD us (namesAt + i) 0 ≡ 0)) where
+  cleared-list : Listed ws us
+  cleared-list i g l = d .0 .before i (omega (arith, apart .list, apart .stack, l)) ∙ c .0 .behind i (omega (arith, apart .marks, g))
+
+  cleared-only : Only marksAt workWords ws us
+  cleared-only =
+      only-then (only-wide (omega arith) (omega (arith, apart .marks, apart .list, apart .stack, apart .names)) (c .0))
+      (only-wide (omega (arith, apart .marks, apart .list, apart .stack)) (omega (arith, apart .names)) (d .0))
+
+  pub cleared-keeps : Keeps us count
+  cleared-keeps = (keeps .0, only-kept (keeps .0) count (apart .table) cleared-only (keeps .1))
+
+  pub cleared-small : ((k : ℕ) → k < n → getD ws (listAt + k) 0 < count) → (k : ℕ) → k < n → getD us (listAt + k) 0 < count
+  cleared-small f k g = omega (arith, f k g, cleared-list (listAt + k) (omega arith) (omega (arith, apart .list)))
+
+  pub cleared-none-marked : Unmarked us
+  cleared-none-marked = record {
+    own = λ i g. d .0 .before (marksAt + i) (omega (arith, apart .marks, apart .list, apart .stack)) ∙ c .1 i g;
+    over = d .1;
+  }
+
+  same-list : listIn us n ≡ listIn ws n
+  same-list =
+      ext-getD 0 (listIn us n) (listIn ws n) (simp (length-take, length-drop) (omega (arith, cleared-only .size)))
+      (λ i l. let g : i < n = omega (arith, length-take n (drop listAt us)) in
+      getD-take n (drop listAt us) i 0 g ∙ getD-drop listAt us i 0 ∙ cleared-list (listAt + i) (omega arith) (omega (arith, apart .list))
+      ∙ sym (getD-take n (drop listAt ws) i 0 g ∙ getD-drop listAt ws i 0))
+
+  pub cleared-noted : (zs : List ℕ) → Noted count us zs (listIn us n) → Noted count ws zs (listIn ws n)
+  cleared-noted zs m = record {
+    only = only-then cleared-only (m .only);
+    list = λ i g l. m .list i g l ∙ cleared-list i g l;
+    own = λ x g. m .own x g ∙ ap (oneOf x) same-list;
+    over = λ b x g. m .over b x g ∙ ap₂ (λ (t : Tree) (l : List ℕ). any (below t x) l) (only-tree b count (apart .table) (keeps .1 .few) cleared-only) same-list;
+  }

@@ -1,0 +1,3 @@
+-- What the proofs of the printed texts share.
+pub mod Laying
+pub mod Spelling

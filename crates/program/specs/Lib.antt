@@ -1,0 +1,3 @@
+-- What the command program prints and writes is said in rules: Program. Here: the same for a guest of any room, and what is answered.
+pub mod Run
+pub mod Told

@@ -1,0 +1,2 @@
+-- The bytes of a list of nodes.
+pub mod Lists
