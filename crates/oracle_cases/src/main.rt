@@ -1,0 +1,419 @@
+// Answers questions from standard input, a line to each: the tests of names, the maker of reservations, the table of references
+// and every call of the writer. oracle/ asks it while it runs the given Rust beside; the file `stdin` beside this source holds questions that it once
+// asked, and `stdout` what the Rust answered.
+//
+// A question is a line of 45 characters and one of bytes. The first has a letter, two numbers of 16 hexadecimal digits, and two
+// of 4, which say how many characters of the second line are the name and how many the value. Of the buffers as much is lent as
+// the last `l` said; it fills them with 238 and 7, so that what is not written shows.
+mod script;
+mod tell;
+
+use libc::STDIN_FILENO;
+use references::rows;
+use reservation::Made;
+use reservation::Reservation;
+use rules::RESERVATION_CEILING;
+use script::number;
+use script::unhex;
+use script::word;
+use writer::FdtWriter;
+use writer::Written;
+ghost use Rattle.io.specs.Counts.{Counts};
+
+const DATA: usize = 4096;
+
+const STRINGS: usize = 1024;
+
+const PHANDLES: usize = 64;
+
+const HEAD: usize = 46;
+
+const TEXT: usize = 1024;
+
+const RAW: usize = 4100;
+
+// The writer's state, and how much of each buffer is lent.
+struct Session {
+    w: FdtWriter,
+    data: usize,
+    strings: usize,
+    phandles: usize,
+}
+
+enum Turn {
+    More(Session),
+    Over,
+}
+
+// A question: its letter and its two numbers.
+struct Asked {
+    op: u8,
+    a: u64,
+    b: u64,
+}
+
+// n, or how many there are where n is more; said so that a part of that length may be lent.
+fn within(n: usize, buf: &[u8]) -> usize
+    ensures { λ r. ⌜ Counts r (now (buf .entry)) ⌝ }
+{
+    if n < buf.len() { n } else { buf.len() }
+}
+
+fn within_words(n: usize, buf: &[u32]) -> usize
+    ensures { λ r. ⌜ Counts r (now (buf .entry)) ⌝ }
+{
+    if n < buf.len() { n } else { buf.len() }
+}
+
+fn fill(s: &mut [u8]) {
+    let mut i = 0;
+    while i < s.len() {
+        s[i] = 238;
+        i += 1;
+    }
+}
+
+fn fill_words(s: &mut [u32]) {
+    let mut i = 0;
+    while i < s.len() {
+        s[i] = 7;
+        i += 1;
+    }
+}
+
+// The reservation, or r where there is none such.
+fn entry(address: u64, size: u64, r: Reservation) -> Reservation {
+    match Reservation::new(address, size) {
+        Made::Reserved(made) => made,
+        Made::InvalidMemoryReservation => r,
+    }
+}
+
+// Those that the bytes spell, sixteen to each.
+fn entries(s: &[u8], r: Reservation) -> [Reservation; RESERVATION_CEILING] {
+    let mut rs = [r; RESERVATION_CEILING];
+    let mut i = 0;
+    while i < RESERVATION_CEILING {
+        rs[i] = entry(octets::long(s, i * 16), octets::long(s, i * 16 + 8), r);
+        i += 1;
+    }
+    rs
+}
+
+fn start(data: &mut [u8], count: usize, val: &[u8]) -> Written {
+    match Reservation::new(0, 1) {
+        Made::Reserved(r) => FdtWriter::new_with_mem_reserv(data, entries(val, r), count),
+        Made::InvalidMemoryReservation => FdtWriter::new(data),
+    }
+}
+
+// A state with another number.
+fn altered(mut w: FdtWriter, field: u64, n: usize) -> FdtWriter {
+    match field {
+        0 => {
+            w.data_len = n;
+        }
+        1 => {
+            w.off_dt_struct = n;
+        }
+        2 => {
+            w.strings_len = n;
+        }
+        3 => {
+            w.phandles_len = n;
+        }
+        _ => {
+            w.node_depth = n;
+        }
+    }
+    w
+}
+
+// The numbers that the value spells, up to three.
+fn cells(w: FdtWriter, data: &mut [u8], strings: &mut [u8], name: &[u8], val: &[u8]) -> Written {
+    let a = octets::word(val, 0);
+    let b = octets::word(val, 4);
+    let c = octets::word(val, 8);
+    match val.len() / 4 {
+        0 => w.property_array_u32(data, strings, name, &[]),
+        1 => w.property_array_u32(data, strings, name, &[a]),
+        2 => w.property_array_u32(data, strings, name, &[a, b]),
+        _ => w.property_array_u32(data, strings, name, &[a, b, c]),
+    }
+}
+
+fn doubles(w: FdtWriter, data: &mut [u8], strings: &mut [u8], name: &[u8], val: &[u8]) -> Written {
+    let a = octets::long(val, 0);
+    let b = octets::long(val, 8);
+    let c = octets::long(val, 16);
+    match val.len() / 8 {
+        0 => w.property_array_u64(data, strings, name, &[]),
+        1 => w.property_array_u64(data, strings, name, &[a]),
+        2 => w.property_array_u64(data, strings, name, &[a, b]),
+        _ => w.property_array_u64(data, strings, name, &[a, b, c]),
+    }
+}
+
+// The calls that take a property's name.
+fn property(
+    q: Asked,
+    w: FdtWriter,
+    data: &mut [u8],
+    strings: &mut [u8],
+    name: &[u8],
+    val: &[u8],
+) -> Written {
+    let op = q.op;
+    match op {
+        b'p' => w.property(data, strings, name, val),
+        b'z' => w.property_null(data, strings, name),
+        b't' => w.property_string(data, strings, name, val),
+        b'k' => w.property_string_list(data, strings, name, val),
+        b'w' => w.property_u32(data, strings, name, word(q.a)),
+        b'q' => w.property_u64(data, strings, name, q.a),
+        b'c' => cells(w, data, strings, name, val),
+        _ => doubles(w, data, strings, name, val),
+    }
+}
+
+// The other calls.
+fn call(
+    q: Asked,
+    w: FdtWriter,
+    data: &mut [u8],
+    strings: &mut [u8],
+    phandles: &mut [u32],
+    name: &[u8],
+    val: &[u8],
+) -> Written {
+    let op = q.op;
+    match op {
+        b'0' => FdtWriter::new(data),
+        b's' => start(data, q.a as usize, val),
+        b'b' => w.begin_node(data, name),
+        b'e' => w.end_node(data, q.a as usize),
+        b'h' => w.property_phandle(data, strings, phandles, word(q.a)),
+        b'f' => w.finish(data, strings),
+        b'i' => Written::Done(w.set_boot_cpuid_phys(word(q.a))),
+        b'a' => Written::Done(altered(w, q.a, q.b as usize)),
+        _ => property(q, w, data, strings, name, val),
+    }
+}
+
+// Makes a call and tells of it.
+fn called(
+    q: Asked,
+    w: FdtWriter,
+    data: &mut [u8],
+    strings: &mut [u8],
+    phandles: &mut [u32],
+    name: &[u8],
+    val: &[u8],
+) -> FdtWriter {
+    let answer = call(q, w, data, strings, phandles, name, val);
+    tell::told(answer, data, strings, phandles)
+}
+
+// A state of nothing, finished.
+fn nothing() -> FdtWriter {
+    FdtWriter {
+        data_len: 0,
+        off_dt_struct: 0,
+        strings_len: 0,
+        phandles_len: 0,
+        node_depth: 0,
+        node_ended: false,
+        finished: true,
+        boot_cpuid_phys: 0,
+    }
+}
+
+fn judged(name: &[u8]) {
+    tell::name(
+        names::node_name_valid(name),
+        names::property_name_valid(name),
+        names::node_name_reads(name),
+        names::property_name_reads(name),
+    );
+}
+
+// Whether a property of this name holds references, and whether it asks its targets for this cells property.
+fn refers(name: &[u8], cells: &[u8]) {
+    tell::refers(
+        rows::is_phandle_property(name),
+        rows::is_cells(rows::cells_name(name), cells),
+    );
+}
+
+fn made(address: u64, size: u64) {
+    match Reservation::new(address, size) {
+        Made::Reserved(r) => tell::made(0, r.address(), r.size()),
+        Made::InvalidMemoryReservation => tell::made(27, 0, 0),
+    }
+}
+
+// Lends anew.
+fn lend(q: Asked, phandles: usize) -> Session {
+    Session {
+        w: nothing(),
+        data: q.a as usize,
+        strings: q.b as usize,
+        phandles,
+    }
+}
+
+// A call of the writer on what is lent.
+fn on(
+    q: Asked,
+    s: Session,
+    data: &mut [u8],
+    strings: &mut [u8],
+    phandles: &mut [u32],
+    name: &[u8],
+    val: &[u8],
+) -> Session {
+    let w = s.w;
+    let d = within(s.data, data);
+    let t = within(s.strings, strings);
+    let p = within_words(s.phandles, phandles);
+    let after = called(
+        q,
+        w,
+        &mut data[..d],
+        &mut strings[..t],
+        &mut phandles[..p],
+        name,
+        val,
+    );
+    Session {
+        w: after,
+        data: d,
+        strings: t,
+        phandles: p,
+    }
+}
+
+fn answer(
+    q: Asked,
+    s: Session,
+    data: &mut [u8],
+    strings: &mut [u8],
+    phandles: &mut [u32],
+    name: &[u8],
+    val: &[u8],
+) -> Session {
+    let op = q.op;
+    match op {
+        b'n' => {
+            judged(name);
+            s
+        }
+        b'm' => {
+            made(q.a, q.b);
+            s
+        }
+        b'r' => {
+            refers(name, val);
+            s
+        }
+        b'l' => {
+            fill(data);
+            fill(strings);
+            fill_words(phandles);
+            lend(q, octets::word(val, 0) as usize)
+        }
+        _ => on(q, s, data, strings, phandles, name, val),
+    }
+}
+
+// Reads n bytes, or as many as there is room for.
+fn take(raw: &mut [u8], n: usize) {
+    let m = within(n, raw);
+    io::read_full(STDIN_FILENO, &mut raw[..m]);
+}
+
+// The first bytes of a text.
+fn text(s: &[u8; TEXT], n: usize) -> &[u8] {
+    octets::part(s, 0, n)
+}
+
+// The bytes that n characters of the second line spell, from a place on, in `out`; answers how many.
+fn spelt(raw: &[u8; RAW], at: usize, n: usize, out: &mut [u8; TEXT]) -> usize {
+    unhex(octets::part(raw, at, n), out)
+}
+
+// The second line of a question, and its answer. Its last character, the line's end, is of neither.
+fn behind(
+    q: Asked,
+    s: Session,
+    name_chars: u16,
+    val_chars: u16,
+    data: &mut [u8; DATA],
+    strings: &mut [u8; STRINGS],
+    phandles: &mut [u32; PHANDLES],
+) -> Session {
+    let n = name_chars as usize;
+    let m = val_chars as usize;
+    let mut raw = [0u8; RAW];
+    take(&mut raw, n + m + 1);
+    let mut name = [0u8; TEXT];
+    let mut val = [0u8; TEXT];
+    let k = spelt(&raw, 0, n, &mut name);
+    let l = spelt(&raw, n, m, &mut val);
+    answer(q, s, data, strings, phandles, text(&name, k), text(&val, l))
+}
+
+fn question(head: &[u8; HEAD]) -> Asked {
+    Asked {
+        op: octets::byte(head, 0),
+        a: number(octets::part(head, 2, 16)),
+        b: number(octets::part(head, 19, 16)),
+    }
+}
+
+// How many characters a field of four says.
+fn count(head: &[u8; HEAD], at: usize) -> u16 {
+    (number(octets::part(head, at, 4)) % 65536) as u16
+}
+
+// One question; Over where there is none left.
+fn next(
+    s: Session,
+    data: &mut [u8; DATA],
+    strings: &mut [u8; STRINGS],
+    phandles: &mut [u32; PHANDLES],
+) -> Turn {
+    let mut head = [0u8; HEAD];
+    let got = io::read_full(STDIN_FILENO, &mut head);
+    if got < HEAD {
+        return Turn::Over;
+    }
+    let q = question(&head);
+    let n = count(&head, 36);
+    let m = count(&head, 41);
+    Turn::More(behind(q, s, n, m, data, strings, phandles))
+}
+
+fn main() {
+    let mut data = [0u8; DATA];
+    let mut strings = [0u8; STRINGS];
+    let mut phandles = [0u32; PHANDLES];
+    let mut s = Session {
+        w: nothing(),
+        data: 0,
+        strings: 0,
+        phandles: 0,
+    };
+    let mut turns: u32 = 4000000000;
+    while turns > 0 {
+        match next(s, &mut data, &mut strings, &mut phandles) {
+            Turn::More(kept) => {
+                s = kept;
+            }
+            Turn::Over => {
+                return;
+            }
+        }
+        turns -= 1;
+    }
+}
