@@ -1,6 +1,6 @@
 -- The search for `reg` over tokens is the look into the properties that they say; and 4 or 8 bytes as one number.
 use mathlib.Core.Path.{_≡_, refl, sym, ap, _∙_}
-use mathlib.Core.Bool.{Bool, true, false, not, _||_}
+use mathlib.Core.Bool.{Bool, true, false, _||_}
 use mathlib.Core.List.{List, [], _∷_}
 use mathlib.Core.Option.{Option, none, some}
 use Prim.Native.Nat.{ℕ, _≤_, _<_}
@@ -139,14 +139,6 @@ module _ (b : Block) (at : ℕ) (r : Token) (e : r ≡ tokenAt (b .structure) at
       reg-on h = step ∙ ap (λ (q : Turn). said q (regAt b next)) h
 
 -- ---- one token
-
-pub un-not : (b : Bool) → not b ≡ true → b ≡ false
-un-not true e = sym e
-un-not false e = refl
-
-pub un-not-false : (b : Bool) → not b ≡ false → b ≡ true
-un-not-false true e = refl
-un-not-false false e = sym e
 
 module _ (structure strings : Bytes) (kind : Kind) (len name value : ℕ) (e : kind ≡ Prop len name value) where
   pub turn-other : same (ascii "reg") (stringAt strings name) ≡ false → On ≡ onKind structure strings kind

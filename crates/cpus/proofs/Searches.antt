@@ -20,23 +20,10 @@ use Rattle.rules.specs.Copy.{isCpus, cpuChild, regOf, isId, stranger}
 use Rattle.rules.specs.Derivation.{cpusFrom, met, idsFrom}
 use Rattle.rules.specs.Laws.Tabled.{cell, treeIn, tree-length, node-in}
 
--- ---- one of the ids
+-- ---- the ids
 
-module _ (n : ℕ) (ids : List ℕ) (k : ℕ) where
-  split : k < length ids → drop k ids ≡ getD ids k 0 ∷ drop (k + 1) ids
-  split h = rw (add-one k) (drop-cons ids k 0 h)
-
-  pub one-here : k < length ids → n ≡ getD ids k 0 → oneOf n (drop k ids) ≡ true
-  unfolding oneOf
-  one-here h e = rw (split h, eq-eqb n (getD ids k 0) e)
-
-  pub one-past : k < length ids → (n ≡ getD ids k 0 → ⊥) → oneOf n (drop k ids) ≡ oneOf n (drop (k + 1) ids)
-  unfolding oneOf
-  one-past h e = rw (split h, ne-eqb n (getD ids k 0) e)
-
-  pub one-end : length ids ≤ k → oneOf n (drop k ids) ≡ false
-  unfolding oneOf
-  one-end h = rw (drop-of-length-le ids {i = k} h)
+split : (ids : List ℕ) (k : ℕ) → k < length ids → drop k ids ≡ getD ids k 0 ∷ drop (k + 1) ids
+split ids k h = rw (add-one k) (drop-cons ids k 0 h)
 
 -- one of one
 pub one-only : (n id : ℕ) → eqb n id ≡ oneOf n (id ∷ [])
@@ -131,11 +118,11 @@ met-all t id count e = rw e
 module _ (t : Tree) (ids : List ℕ) (k : ℕ) (h : k < length ids) where
   pub ids-unmet : met t (getD ids k 0) ≡ false → refuses 44 k ≡ idsFrom t k (drop k ids)
   unfolding idsFrom
-  ids-unmet e = rw (split 0 ids k h, e)
+  ids-unmet e = rw (split ids k h, e)
 
   pub ids-met : met t (getD ids k 0) ≡ true → idsFrom t k (drop k ids) ≡ idsFrom t (k + 1) (drop (k + 1) ids)
   unfolding idsFrom
-  ids-met e = rw (split 0 ids k h, e, add-one k)
+  ids-met e = rw (split ids k h, e, add-one k)
 
 pub ids-end : (t : Tree) (ids : List ℕ) (k : ℕ) → length ids ≤ k → passes ≡ idsFrom t k (drop k ids)
 unfolding idsFrom

@@ -6,12 +6,12 @@ use mathlib.Core.Option.{Option, some, none}
 use Prim.Native.Nat.{ℕ}
 use native.Mathlib.Omega.{arith}
 use denote.Ref.{now}
+use borrow.Author.Tests.{not-true, not-false}
 use Rattle.rules.specs.Blob.{missing}
 use Rattle.rules.specs.Tree.{node, frame}
 use Rattle.rules.specs.Copy.{cpuChild, regOf, isId}
 use Rattle.paths.specs.Trees.{treeOf}
 use Rattle.cpus.specs.Registers.{meaning}
-use Rattle.cpus.proofs.Registers.{un-not, un-not-false}
 use Rattle.cpus.proofs.Searches.{no-child, the-child}
 use borrow.Author.Needs.{needs}
 use Rattle.cpus.proofs.judged.bare.Statement.{statement}
@@ -21,7 +21,7 @@ cpu-child-requires : tie.Need-cpu-child-requires
 cpu-child-requires c κs = search needs
 
 returns : tie.Need-returns
-returns c = sym (no-child (cpuChild (frame (treeOf (c .before .before .before .before .before .args .place) (now (c .before .before .before .before .before .args .structure)) (now (c .before .before .before .before .before .args .strings)) (now (c .before .before .before .before .before .args .work)) (c .before .before .before .before .before .args .count))) (c .before .before .before .before .before .args .i)) missing (regOf (node (treeOf (c .before .before .before .before .before .args .place) (now (c .before .before .before .before .before .args .structure)) (now (c .before .before .before .before .before .args .strings)) (now (c .before .before .before .before .before .args .work)) (c .before .before .before .before .before .args .count)) (c .before .before .before .before .before .args .i))) (sym (c .before .cpu-child .ensures (now (c .before .before .before .before .before .args .strings))) ∙ un-not (c .before .cpu-child .result) (c .if1 .taken)))
+returns c = sym (no-child (cpuChild (frame (treeOf (c .before .before .before .before .before .args .place) (now (c .before .before .before .before .before .args .structure)) (now (c .before .before .before .before .before .args .strings)) (now (c .before .before .before .before .before .args .work)) (c .before .before .before .before .before .args .count))) (c .before .before .before .before .before .args .i)) missing (regOf (node (treeOf (c .before .before .before .before .before .args .place) (now (c .before .before .before .before .before .args .structure)) (now (c .before .before .before .before .before .args .strings)) (now (c .before .before .before .before .before .args .work)) (c .before .before .before .before .before .args .count)) (c .before .before .before .before .before .args .i))) (sym (c .before .cpu-child .ensures (now (c .before .before .before .before .before .args .strings))) ∙ not-true (c .before .cpu-child .result) (c .if1 .taken)))
 
 reg-at-requires : tie.Need-reg-at-requires
 reg-at-requires c κs = search needs
@@ -33,10 +33,10 @@ enum-told-2 : tie.Need-enum-told-2
 enum-told-2 c = search needs
 
 returns-2 : tie.Need-returns-2
-returns-2 c = the-child (cpuChild (frame (treeOf (c .before .before .before .before .before .before .before .before .args .place) (now (c .before .before .before .before .before .before .before .before .args .structure)) (now (c .before .before .before .before .before .before .before .before .args .strings)) (now (c .before .before .before .before .before .before .before .before .args .work)) (c .before .before .before .before .before .before .before .before .args .count))) (c .before .before .before .before .before .before .before .before .args .i)) missing (regOf (node (treeOf (c .before .before .before .before .before .before .before .before .args .place) (now (c .before .before .before .before .before .before .before .before .args .structure)) (now (c .before .before .before .before .before .before .before .before .args .strings)) (now (c .before .before .before .before .before .before .before .before .args .work)) (c .before .before .before .before .before .before .before .before .args .count)) (c .before .before .before .before .before .before .before .before .args .i))) (sym (c .before .before .before .before .cpu-child .ensures (now (c .before .before .before .before .before .before .before .before .args .strings))) ∙ un-not-false (c .before .before .before .before .cpu-child .result) (c .before .before .before .if1 .left)) (some (c .enum-told .given .0 .0)) (sym (ap meaning (c .enum-told .given .1)) ∙ c .before .before .reg-at .ensures) _ refl
+returns-2 c = the-child (cpuChild (frame (treeOf (c .before .before .before .before .before .before .before .before .args .place) (now (c .before .before .before .before .before .before .before .before .args .structure)) (now (c .before .before .before .before .before .before .before .before .args .strings)) (now (c .before .before .before .before .before .before .before .before .args .work)) (c .before .before .before .before .before .before .before .before .args .count))) (c .before .before .before .before .before .before .before .before .args .i)) missing (regOf (node (treeOf (c .before .before .before .before .before .before .before .before .args .place) (now (c .before .before .before .before .before .before .before .before .args .structure)) (now (c .before .before .before .before .before .before .before .before .args .strings)) (now (c .before .before .before .before .before .before .before .before .args .work)) (c .before .before .before .before .before .before .before .before .args .count)) (c .before .before .before .before .before .before .before .before .args .i))) (sym (c .before .before .before .before .cpu-child .ensures (now (c .before .before .before .before .before .before .before .before .args .strings))) ∙ not-false (c .before .before .before .before .cpu-child .result) (c .before .before .before .if1 .left)) (some (c .enum-told .given .0 .0)) (sym (ap meaning (c .enum-told .given .1)) ∙ c .before .before .reg-at .ensures) _ refl
 
 returns-3 : tie.Need-returns-3
-returns-3 c = the-child (cpuChild (frame (treeOf (c .before .before .before .before .before .before .before .before .args .place) (now (c .before .before .before .before .before .before .before .before .args .structure)) (now (c .before .before .before .before .before .before .before .before .args .strings)) (now (c .before .before .before .before .before .before .before .before .args .work)) (c .before .before .before .before .before .before .before .before .args .count))) (c .before .before .before .before .before .before .before .before .args .i)) missing (regOf (node (treeOf (c .before .before .before .before .before .before .before .before .args .place) (now (c .before .before .before .before .before .before .before .before .args .structure)) (now (c .before .before .before .before .before .before .before .before .args .strings)) (now (c .before .before .before .before .before .before .before .before .args .work)) (c .before .before .before .before .before .before .before .before .args .count)) (c .before .before .before .before .before .before .before .before .args .i))) (sym (c .before .before .before .before .cpu-child .ensures (now (c .before .before .before .before .before .before .before .before .args .strings))) ∙ un-not-false (c .before .before .before .before .cpu-child .result) (c .before .before .before .if1 .left)) none (sym (ap meaning (c .enum-told2 .given .1)) ∙ c .before .before .reg-at .ensures) _ refl
+returns-3 c = the-child (cpuChild (frame (treeOf (c .before .before .before .before .before .before .before .before .args .place) (now (c .before .before .before .before .before .before .before .before .args .structure)) (now (c .before .before .before .before .before .before .before .before .args .strings)) (now (c .before .before .before .before .before .before .before .before .args .work)) (c .before .before .before .before .before .before .before .before .args .count))) (c .before .before .before .before .before .before .before .before .args .i)) missing (regOf (node (treeOf (c .before .before .before .before .before .before .before .before .args .place) (now (c .before .before .before .before .before .before .before .before .args .structure)) (now (c .before .before .before .before .before .before .before .before .args .strings)) (now (c .before .before .before .before .before .before .before .before .args .work)) (c .before .before .before .before .before .before .before .before .args .count)) (c .before .before .before .before .before .before .before .before .args .i))) (sym (c .before .before .before .before .cpu-child .ensures (now (c .before .before .before .before .before .before .before .before .args .strings))) ∙ not-false (c .before .before .before .before .cpu-child .result) (c .before .before .before .if1 .left)) none (sym (ap meaning (c .enum-told2 .given .1)) ∙ c .before .before .reg-at .ensures) _ refl
 
 pub bare-spec : {M : Type 1} → statement M
 bare-spec = tie.close (tie.spec cpu-child-requires returns reg-at-requires enum-told enum-told-2 returns-2 returns-3)

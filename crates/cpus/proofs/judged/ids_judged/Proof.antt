@@ -4,9 +4,9 @@ use Prim.Native.Nat.{ℕ, _+_, _-_, _≤_}
 use native.Mathlib.Omega.{arith}
 use lib.ListN.{length, drop}
 use denote.Ref.{now}
+use borrow.Author.Tests.{not-true, not-false}
 use Rattle.rules.specs.Derivation.{idsFrom}
 use Rattle.paths.specs.Trees.{treeOf}
-use Rattle.cpus.proofs.Registers.{un-not, un-not-false}
 use Rattle.cpus.proofs.Searches.{ids-unmet, ids-met, ids-end}
 use borrow.Author.Needs.{needs}
 use Rattle.cpus.proofs.judged.ids_judged.Statement.{statement}
@@ -32,7 +32,7 @@ met-requires : tie.Need-met-requires Inv-loop μ-loop
 met-requires c κs = search needs
 
 returns : tie.Need-returns Inv-loop μ-loop
-returns c = ids-unmet (treeOf (c .before .before .before .before .before .before .before .before .before .args .place) (now (c .before .before .before .before .before .before .before .before .before .args .structure)) (now (c .before .before .before .before .before .before .before .before .before .args .strings)) (now (c .before .before .before .before .before .before .before .before .before .args .work)) (c .before .before .before .before .before .before .before .before .before .args .count)) (now (c .before .before .before .before .before .before .before .before .before .args .ids)) (c .before .before .before .before .loop .k) (c .before .before .before .loop-test .taken) (sym (c .before .met .ensures) ∙ un-not (c .before .met .result) (c .if1 .taken)) ∙ sym (c .before .before .before .before .loop .inv)
+returns c = ids-unmet (treeOf (c .before .before .before .before .before .before .before .before .before .args .place) (now (c .before .before .before .before .before .before .before .before .before .args .structure)) (now (c .before .before .before .before .before .before .before .before .before .args .strings)) (now (c .before .before .before .before .before .before .before .before .before .args .work)) (c .before .before .before .before .before .before .before .before .before .args .count)) (now (c .before .before .before .before .before .before .before .before .before .args .ids)) (c .before .before .before .before .loop .k) (c .before .before .before .loop-test .taken) (sym (c .before .met .ensures) ∙ not-true (c .before .met .result) (c .if1 .taken)) ∙ sym (c .before .before .before .before .loop .inv)
 
 add-k : tie.Need-add-k Inv-loop μ-loop
 add-k c = search needs
@@ -41,7 +41,7 @@ loop-less : tie.Need-loop-less Inv-loop μ-loop
 loop-less c = omega arith
 
 loop-again : tie.Need-loop-again Inv-loop μ-loop
-loop-again c = c .before .before .before .before .loop .inv ∙ ids-met (treeOf (c .before .before .before .before .before .before .before .before .before .args .place) (now (c .before .before .before .before .before .before .before .before .before .args .structure)) (now (c .before .before .before .before .before .before .before .before .before .args .strings)) (now (c .before .before .before .before .before .before .before .before .before .args .work)) (c .before .before .before .before .before .before .before .before .before .args .count)) (now (c .before .before .before .before .before .before .before .before .before .args .ids)) (c .before .before .before .before .loop .k) (c .before .before .before .loop-test .taken) (sym (c .before .met .ensures) ∙ un-not-false (c .before .met .result) (c .if1 .left))
+loop-again c = c .before .before .before .before .loop .inv ∙ ids-met (treeOf (c .before .before .before .before .before .before .before .before .before .args .place) (now (c .before .before .before .before .before .before .before .before .before .args .structure)) (now (c .before .before .before .before .before .before .before .before .before .args .strings)) (now (c .before .before .before .before .before .before .before .before .before .args .work)) (c .before .before .before .before .before .before .before .before .before .args .count)) (now (c .before .before .before .before .before .before .before .before .before .args .ids)) (c .before .before .before .before .loop .k) (c .before .before .before .loop-test .taken) (sym (c .before .met .ensures) ∙ not-false (c .before .met .result) (c .if1 .left))
 
 returns-2 : tie.Need-returns-2 Inv-loop μ-loop
 returns-2 c = ids-end (treeOf (c .before .before .before .before .before .before .args .place) (now (c .before .before .before .before .before .before .args .structure)) (now (c .before .before .before .before .before .before .args .strings)) (now (c .before .before .before .before .before .before .args .work)) (c .before .before .before .before .before .before .args .count)) (now (c .before .before .before .before .before .before .args .ids)) (c .before .loop .k) (omega (arith, c .loop-test .left)) ∙ sym (c .before .loop .inv)

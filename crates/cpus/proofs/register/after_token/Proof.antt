@@ -1,10 +1,11 @@
 -- `after_token` meets its contract: a case for each kind.
 use mathlib.Core.Path.{sym, ap, _∙_}
 use denote.Ref.{now}
+use borrow.Author.Tests.{not-true, not-false}
 use Rattle.rules.specs.Octets.{ascii, same}
 use Rattle.cpus.specs.declared.register.Turn.the-variants.{Value}
 use Rattle.cpus.specs.Registers.{registerIn}
-use Rattle.cpus.proofs.Registers.{un-not, un-not-false, turn-other, turn-value}
+use Rattle.cpus.proofs.Registers.{turn-other, turn-value}
 use borrow.Author.Needs.{needs}
 use Rattle.cpus.proofs.register.after_token.Statement.{statement}
 use Rattle.cpus.proofs.register.after_token.Tie as tie
@@ -32,7 +33,7 @@ same-requires c κs = search needs
 
 returns : tie.Need-returns
 unfolding ascii
-returns c = turn-other (now (c .before .before .before .before .before .before .before .before .before .args .structure)) (now (c .before .before .before .before .before .before .before .before .before .args .strings)) (c .before .before .before .before .before .before .before .before .before .args .kind) _ _ _ (c .before .before .before .before .before .kind .given .1) (ap (same (ascii "reg")) (sym (c .before .before .string-at .ensures)) ∙ sym (c .before .same .ensures) ∙ un-not (c .before .same .result) (c .if1 .taken))
+returns c = turn-other (now (c .before .before .before .before .before .before .before .before .before .args .structure)) (now (c .before .before .before .before .before .before .before .before .before .args .strings)) (c .before .before .before .before .before .before .before .before .before .args .kind) _ _ _ (c .before .before .before .before .before .kind .given .1) (ap (same (ascii "reg")) (sym (c .before .before .string-at .ensures)) ∙ sym (c .before .same .ensures) ∙ not-true (c .before .same .result) (c .if1 .taken))
 
 part-requires : tie.Need-part-requires
 part-requires c κs = search needs
@@ -51,7 +52,7 @@ returns-4 c = simp (c .enum-told3 .given .1)
 
 returns-5 : tie.Need-returns-5
 unfolding ascii
-returns-5 c = ap Value (c .register-in .ensures ∙ ap registerIn (c .before .part .ensures)) ∙ turn-value (now (c .before .before .before .before .before .before .before .before .before .before .before .args .structure)) (now (c .before .before .before .before .before .before .before .before .before .before .before .args .strings)) (c .before .before .before .before .before .before .before .before .before .before .before .args .kind) _ _ _ (c .before .before .before .before .before .before .before .kind .given .1) (ap (same (ascii "reg")) (sym (c .before .before .before .before .string-at .ensures)) ∙ sym (c .before .before .before .same .ensures) ∙ un-not-false (c .before .before .before .same .result) (c .before .before .if1 .left))
+returns-5 c = ap Value (c .register-in .ensures ∙ ap registerIn (c .before .part .ensures)) ∙ turn-value (now (c .before .before .before .before .before .before .before .before .before .before .before .args .structure)) (now (c .before .before .before .before .before .before .before .before .before .before .before .args .strings)) (c .before .before .before .before .before .before .before .before .before .before .before .args .kind) _ _ _ (c .before .before .before .before .before .before .before .kind .given .1) (ap (same (ascii "reg")) (sym (c .before .before .before .before .string-at .ensures)) ∙ sym (c .before .before .before .same .ensures) ∙ not-false (c .before .before .before .same .result) (c .before .before .if1 .left))
 
 pub after-token-spec : {M : Type 1} → statement M
 after-token-spec = tie.close (tie.spec enum-told enum-told-2 enum-told-3 enum-known-kind slice-aggregate-same string-at-requires same-requires returns part-requires register-in-requires returns-2 returns-3 returns-4 returns-5)
