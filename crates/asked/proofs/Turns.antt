@@ -9,7 +9,6 @@ use native.Mathlib.Nat.{zero-add}
 use lib.ListN.{length, take, drop, length-append}
 use lib.Seq.{take-append-seam}
 use Rattle.rules.specs.Laws.Octets.{lay-front, lay-nil, lay-lay, length-lay}
-use Rattle.rules.specs.Ceilings.{nodeCeiling}
 use Rattle.rules.specs.Octets.{Bytes, part, lay}
 use Rattle.rules.specs.Tree.{Frame, frame}
 use Rattle.rules.specs.Lists.{oneOf}
@@ -18,7 +17,7 @@ use Rattle.rules.specs.Derivation.{Given, given, nodeAt, repeats, configuredFro
 use Rattle.rules.specs.Laws.Formed.{named-mem}
 use Rattle.rules.specs.Laws.Given.{givenAt, given-all}
 use Rattle.rules.specs.Laws.Program.{Laying, laying-none, laying-more, laying-bytes, laying-count}
-use Rattle.rules.specs.Laws.Tabled.{treeIn, tree-length}
+use Rattle.rules.specs.Laws.Tabled.{tree-length}
 use Rattle.paths.specs.Trees.{treeOf}
 use Rattle.references.specs.declared.table.Found.{Found}
 use Rattle.references.specs.Table.{found}

@@ -3,22 +3,20 @@ use mathlib.Core.Path.{_≡_, refl, sym, ap, _∙_}
 use mathlib.Core.Bool.{Bool, true, false, _||_}
 use mathlib.Core.List.{List, [], _∷_, _++_, List·Memᴰ·head, List·Memᴰ·not-nil, List·Memᴰ·cases-cons}
 use mathlib.Core.Logic.{inl, inr}
-use mathlib.Core.Option.{Option, none, some}
+use mathlib.Core.Option.{none, some}
 use Prim.Native.Nat.{ℕ}
 use native.Mathlib.Omega.{arith}
 use lib.Dec.{eqb}
 use lib.ListN.{length}
-use borrow.Author.Tests.{eqb-true, eq-eqb, ne-eqb}
+use borrow.Author.Tests.{eq-eqb, ne-eqb}
 use Rattle.rules.specs.Octets.{Bytes, same}
 use Rattle.rules.specs.Lists.{oneOf}
-use Rattle.rules.specs.Outcome.{Outcome, Verdict, gives, refuses, passes, _then_}
-use Rattle.rules.specs.Blob.{missing}
+use Rattle.rules.specs.Outcome.{Outcome, gives, refuses, passes, _then_}
 use Rattle.rules.specs.Tree.{Frame}
 use Rattle.rules.specs.Derivation.{Given, given, nodeAt, repeats, configuredFrom, nodesNamed}
-use Rattle.rules.specs.Laws.Tests.{by-test, or-left, or-right, or-false}
+use Rattle.rules.specs.Laws.Tests.{by-test}
 use Rattle.rules.specs.Laws.Octets.{same-eq, eq-same}
 use Rattle.rules.specs.Laws.References.{by-option}
-use Rattle.rules.specs.Laws.Verdicts.{then-passes, one-passes}
 use Rattle.rules.specs.Laws.Formed.{named-mem}
 
 module _ (f : Frame) where

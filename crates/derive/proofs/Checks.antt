@@ -1,15 +1,13 @@
 -- A request judged part by part.
 use mathlib.Core.Path.{_≡_, refl, sym, ap, _∙_}
-use mathlib.Core.Bool.{Bool, true, false}
 use mathlib.Core.List.{List, [], _∷_}
 use Prim.Native.Nat.{ℕ, suc, _+_, _≤_, _<_}
 use native.Mathlib.Omega.{arith}
 use lib.ListN.{length}
 use Rattle.rules.specs.Ceilings.{entryCeiling}
-use Rattle.rules.specs.Octets.{Bytes, lay}
+use Rattle.rules.specs.Octets.{lay}
 use Rattle.rules.specs.Outcome.{Outcome, Verdict, passes, gives, refuses, _then_}
-use Rattle.rules.specs.Tree.{Tree, Frame, frame, numbers}
-use Rattle.rules.specs.Copy.{null}
+use Rattle.rules.specs.Tree.{Tree, frame, numbers}
 use Rattle.rules.specs.Derivation.{Given, Request, given, pathAtFault, pathsJudged, listsJudged, configuredFrom, configuredJudged, cpusFrom, cpusJudged, idsFrom, requestJudged, asked}
 use Rattle.rules.specs.Laws.Tests.{by-test}
 use Rattle.rules.specs.Laws.Verdicts.{gives-refuses, then-passes}

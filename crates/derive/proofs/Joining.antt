@@ -1,16 +1,16 @@
 -- The parts joined: what the reader says, what is judged, and what is written.
 use mathlib.Core.Path.{_≡_, refl, sym, ap, ap₂, _∙_}
 use mathlib.Core.List.{List, [], _∷_}
-use Prim.Native.Nat.{ℕ, _+_, _-_, _≤_, _<_}
+use Prim.Native.Nat.{ℕ, _-_, _≤_}
 use native.Mathlib.Omega.{arith}
 use native.Mathlib.Nat.{sub-zero, zero-add}
 use lib.Dec.{ltb}
-use lib.ListN.{length, take, drop, replicate, length-replicate}
+use lib.ListN.{length, take, drop, replicate}
 use lib.Seq.{take-append-seam}
 use borrow.Author.Tests.{lt-ltb, le-ltb, ltb-false}
 use Rattle.rules.specs.Laws.Tests.{by-le}
 use Rattle.rules.specs.Ceilings.{entryCeiling, workWords}
-use Rattle.rules.specs.Octets.{Bytes, if_then_else_, put, lay, zeros, wordAt, part}
+use Rattle.rules.specs.Octets.{Bytes, put, lay, zeros, wordAt, part}
 use Rattle.rules.specs.Outcome.{Outcome, Verdict, passes, gives, refuses, settled, _then_}
 use Rattle.rules.specs.Blob.{Block, headerIn, blockIn}
 use Rattle.rules.specs.Events.{shapeJudged, eventsIn}
@@ -18,14 +18,14 @@ use Rattle.rules.specs.Tree.{Tree, Frame, frame, nodesOf}
 use Rattle.rules.specs.Copy.{Asked as AskedFor}
 use Rattle.rules.specs.Reader.{eventsRead, treeRead, blobJudged, spaceJudged, read, rowsOf, tableOf, readWork, spaceOf}
 use Rattle.rules.specs.References.{edition1}
-use Rattle.rules.specs.Derivation.{Request, Derived, Given, given, nodeAt, nodesNamed, asked, requestJudged, configuredJudged, listedPaths, listOf, guestOf, derive, deriveList, deriveGuest, deriveWork}
+use Rattle.rules.specs.Derivation.{Request, Derived, Given, given, nodeAt, nodesNamed, asked, requestJudged, listedPaths, listOf, guestOf, derive, deriveList, deriveGuest, deriveWork}
 use Rattle.rules.specs.Laws.Verdicts.{gives-refuses, then-passes, passes-then, one-passes}
 use Rattle.rules.specs.Laws.Octets.{lay-front, length-lay, length-zeros}
 use Rattle.rules.specs.Laws.Formed.{accepted, conf-distinct, conf-small}
 use Rattle.rules.specs.Laws.Listed.{configured-granted}
 use Rattle.rules.specs.Laws.Reader.{space-clear, space-length, space-space, table-fits}
 use Rattle.rules.specs.Laws.Table.{rows-length, read-table}
-use Rattle.rules.specs.Laws.Kept.{Kept, kept-read}
+use Rattle.rules.specs.Laws.Kept.{kept-read}
 use Rattle.rules.specs.Laws.Tabled.{treeIn, tree-length}
 use Rattle.rules.specs.Laws.TabledRead.{tree-read}
 use Rattle.rules.specs.Laws.References.{by-option}

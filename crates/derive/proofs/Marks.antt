@@ -1,26 +1,24 @@
 -- The list and the marks, joined.
 use mathlib.Core.Path.{_≡_, refl, sym, ap, ap₂, _∙_}
-use mathlib.Core.Bool.{Bool, true, false}
-use mathlib.Core.List.{List, [], _∷_}
-use Prim.Native.Nat.{ℕ, _+_, _≤_, _<_}
+use mathlib.Core.List.{List}
+use Prim.Native.Nat.{ℕ, _+_, _<_}
 use native.Mathlib.Omega.{arith}
-use lib.ListN.{length, getD, take, drop, length-take, length-drop}
+use lib.ListN.{getD, take, drop, length-take, length-drop}
 use lib.Seq.{getD-take, getD-drop, ext-getD}
-use Rattle.rules.specs.Ceilings.{nodeCeiling, workWords}
+use Rattle.rules.specs.Ceilings.{workWords}
 use Rattle.rules.specs.Octets.{if_then_else_}
 use Rattle.rules.specs.Blob.{Block}
-use Rattle.rules.specs.Tree.{Tree, frame}
+use Rattle.rules.specs.Tree.{Tree}
 use Rattle.rules.specs.References.{edition1}
 use Rattle.rules.specs.Listing.{_∈_, listed}
-use Rattle.rules.specs.Copy.{stranger, picked, copied}
-use Rattle.rules.specs.Space.{tableWords, marksAt, listAt, stackAt}
+use Rattle.rules.specs.Copy.{picked, copied}
+use Rattle.rules.specs.Space.{listAt}
 use Rattle.rules.specs.Laws.Lists.{mem-at}
 use Rattle.rules.specs.Laws.Listing.{listed-small}
-use Rattle.rules.specs.Laws.Kept.{Kept, Alike, kept-alike, tree-alike, only-alike, only-drop, marks-behind, list-behind, stack-behind, names-behind, names-inside}
+use Rattle.rules.specs.Laws.Kept.{Kept, kept-alike, tree-alike, only-alike, only-drop, marks-behind, stack-behind}
 use Rattle.rules.specs.Laws.Tabled.{treeIn, tree-length}
 use Rattle.order.specs.Starts.{Asked}
-use Rattle.listing.specs.State.{Apart}
-use Rattle.listing.specs.Lists.{Stands, Lists}
+use Rattle.listing.specs.Lists.{Lists}
 use Rattle.picks.specs.Marks.{listIn}
 use Rattle.picks.specs.Turns.{pickOf, Picks}
 use Rattle.derive.specs.Marked.{Marks}

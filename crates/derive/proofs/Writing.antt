@@ -1,32 +1,32 @@
 -- Both outputs, measured and written.
 use mathlib.Core.Path.{_≡_, refl, sym, ap, ap₂, _∙_}
 use mathlib.Core.Bool.{Bool, true, false}
-use mathlib.Core.List.{List, [], _∷_, map}
-use Prim.Native.Nat.{ℕ, zero, suc, _+_, _*_, _≤_, _<_, min}
+use mathlib.Core.List.{List, [], map}
+use Prim.Native.Nat.{ℕ, zero, suc, _+_, _≤_, _<_, min}
 use native.Mathlib.Omega.{arith}
 use native.Mathlib.Nat.{zero-add}
-use lib.Dec.{eqb, ltb}
+use lib.Dec.{eqb}
 use lib.ListN.{length, getD, take, drop, length-take, length-drop, length-map}
 use lib.Seq.{getD-take, getD-drop, ext-getD}
 use borrow.Author.Tests.{lt-ltb, le-ltb}
 use Rattle.rules.specs.Ceilings.{blobCeiling, nodeCeiling, workWords}
 use Rattle.rules.specs.Octets.{Bytes, if_then_else_, put, lay}
-use Rattle.rules.specs.Outcome.{Outcome, gives, refuses, settled, _then_}
+use Rattle.rules.specs.Outcome.{Outcome, gives, refuses, _then_}
 use Rattle.rules.specs.Blob.{Block}
 use Rattle.rules.specs.Events.{Event, eventsIn}
 use Rattle.rules.specs.Tree.{Tree, node, path, nodesOf}
 use Rattle.rules.specs.References.{edition1}
 use Rattle.rules.specs.Listing.{_∈_, listed, pathsBytes}
-use Rattle.rules.specs.Copy.{copied, sieve, guestEvents, guestBytes}
+use Rattle.rules.specs.Copy.{copied, guestEvents, guestBytes}
 use Rattle.rules.specs.Copy.{Asked as AskedFor}
 use Rattle.rules.specs.Written.{writeEvents, blobOf}
 use Rattle.rules.specs.Derivation.{Derived, roomJudged}
-use Rattle.rules.specs.Space.{tableWords, marksAt, listAt, stackAt}
+use Rattle.rules.specs.Space.{marksAt, listAt, stackAt}
 use Rattle.rules.specs.Laws.Octets.{lay-put}
 use Rattle.rules.specs.Laws.Copy.{copied-root, copied-parent}
 use Rattle.rules.specs.Laws.Listing.{listed-small}
 use Rattle.rules.specs.Laws.Sieve.{Upward}
-use Rattle.rules.specs.Laws.Kept.{Kept as KeptTable, Only, Alike, tree-alike, only-drop, marks-behind, list-behind, stack-behind, names-behind, names-inside}
+use Rattle.rules.specs.Laws.Kept.{Only, tree-alike, only-drop, marks-behind, list-behind, stack-behind}
 use Rattle.rules.specs.Laws.Tabled.{treeIn, tree-length}
 use Rattle.order.specs.Starts.{Asked}
 use Rattle.guest.specs.declared.Size.{Size}

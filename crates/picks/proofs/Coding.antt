@@ -7,19 +7,18 @@ use native.Mathlib.Omega.{arith}
 use lib.Dec.{eqb, ltb}
 use lib.ListN.{length, getD}
 use borrow.Author.Tests.{eqb-true, eqb-false, eq-eqb, ne-eqb, lt-ltb, le-ltb}
-use Rattle.rules.specs.Ceilings.{nodeCeiling, workWords}
+use Rattle.rules.specs.Ceilings.{nodeCeiling}
 use Rattle.rules.specs.Octets.{if_then_else_, lay}
 use Rattle.rules.specs.Blob.{Block}
-use Rattle.rules.specs.Lists.{oneOf, any}
-use Rattle.rules.specs.Tree.{Tree, node, below, frame}
-use Rattle.rules.specs.Copy.{null, isCpus, cpuChild, stranger, picked}
-use Rattle.rules.specs.Space.{tableWords, marksAt, listAt, stackAt, namesAt}
+use Rattle.rules.specs.Lists.{oneOf}
+use Rattle.rules.specs.Tree.{Tree, node, frame}
+use Rattle.rules.specs.Copy.{null, isCpus, cpuChild, stranger}
+use Rattle.rules.specs.Space.{marksAt, stackAt, namesAt}
 use Rattle.rules.specs.Laws.Tests.{by-test}
 use Rattle.rules.specs.Laws.Octets.{lay-one-same, lay-one-other, length-lay}
-use Rattle.rules.specs.Laws.Paths.{Formed}
-use Rattle.rules.specs.Laws.Kept.{Kept, Only, only-then, only-one, only-tree}
+use Rattle.rules.specs.Laws.Kept.{Kept, only-then, only-one, only-tree}
 use Rattle.rules.specs.Laws.Tabled.{treeIn, tree-length}
-use Rattle.picks.specs.Marks.{marked, listIn, Listed, Noted}
+use Rattle.picks.specs.Marks.{marked, listIn, Noted}
 use Rattle.picks.specs.Codes.{next, taken, codeOf, code-root, code-step, taken-picked}
 use Rattle.picks.specs.Turns.{parentCode, codeAt, markAt, turned, pickOf, Coded, Picks}
 use Rattle.picks.proofs.Places.{Apart, apart, stack-at}

@@ -9,16 +9,16 @@ use native.Mathlib.Numerals.{add-one}
 use lib.Dec.{eqb}
 use lib.ListN.{length, getD, drop, length-take, length-drop}
 use lib.Seq.{take-suc, getD-drop, getD-take, ext-getD}
-use borrow.Author.Tests.{eqb-true, eqb-false, eq-eqb, ne-eqb}
+use borrow.Author.Tests.{eqb-true, eqb-false}
 use Rattle.rules.specs.Ceilings.{nodeCeiling, workWords}
 use Rattle.rules.specs.Octets.{lay}
 use Rattle.rules.specs.Blob.{Block}
 use Rattle.rules.specs.Lists.{oneOf, any}
 use Rattle.rules.specs.Tree.{Node, Tree, node, below, climb}
-use Rattle.rules.specs.Space.{tableWords, marksAt, listAt, stackAt, namesAt}
-use Rattle.rules.specs.Laws.Tests.{by-test, by-le}
+use Rattle.rules.specs.Space.{tableWords, marksAt, listAt, namesAt}
+use Rattle.rules.specs.Laws.Tests.{by-test, eqb-sym, or-nothing, or-comm}
 use Rattle.rules.specs.Laws.Octets.{lay-one-same, lay-one-other}
-use Rattle.rules.specs.Laws.Kept.{Kept, Only, only-none, only-then, only-wide, only-one, only-tree, only-kept}
+use Rattle.rules.specs.Laws.Kept.{Only, only-none, only-then, only-wide, only-one, only-tree, only-kept}
 use Rattle.rules.specs.Laws.Tabled.{treeIn, tree-length, node-in}
 use Rattle.picks.specs.Marks.{marked, listIn, Listed, Keeps, Unmarked, Noted}
 use Rattle.picks.specs.Codes.{one-any}
@@ -52,20 +52,11 @@ cleared-more at n ws vs us i room c h e = record {
 
 -- ---- the way up
 
-or-none : (a : Bool) → (a || false) ≡ a
-or-none true = refl
-or-none false = refl
-
 or-turn : (a b c d : Bool) → a ≡ d → ((a || b) || c) ≡ (b || (d || c))
 or-turn true true c d e = refl
 or-turn true false c d e = rw (← e)
 or-turn false true c d e = refl
 or-turn false false c d e = rw (← e)
-
-eqb-swap : (x y : ℕ) → eqb x y ≡ eqb y x
-eqb-swap x y = by-test (eqb x y)
-    (λ e. e ∙ sym (eq-eqb y x (sym (eqb-true x y e))))
-    (λ e. e ∙ sym (ne-eqb y x (λ q. eqb-false x y e (sym q))))
 
 climb-zero : (t : Tree) (left p : ℕ) → climb t left p 0 ≡ false
 unfolding climb
@@ -103,10 +94,10 @@ module _ (count : ℕ) (ws : List ℕ) (k : Keeps ws count) where
   module _ (vs : List ℕ) (j left at : ℕ) (c : Climbing count ws vs j left at) where
     pub climbing-done : (left ≡ 0) ⊎ (at ≡ 0) → (b : Block) (x : ℕ) → x < count → marked vs namesAt x ≡ (marked ws namesAt x || below (treeIn b ws count) x j)
     unfolding climb
-    climbing-done (inl e) b x h = sym (or-none (marked vs namesAt x)) ∙ rw e at (c .marks b x h)
+    climbing-done (inl e) b x h = sym (or-nothing (marked vs namesAt x)) ∙ rw e at (c .marks b x h)
     climbing-done (inr e) b x h =
         let z : climb (treeIn b ws count) left x at ≡ false = ap (climb (treeIn b ws count) left x) e ∙ climb-zero (treeIn b ws count) left x in
-        sym (or-none (marked vs namesAt x)) ∙ ap (λ (d : Bool). marked vs namesAt x || d) (sym z) ∙ c .marks b x h
+        sym (or-nothing (marked vs namesAt x)) ∙ ap (λ (d : Bool). marked vs namesAt x || d) (sym z) ∙ c .marks b x h
 
     -- the parent is a node below the ceiling
     pub up-small : 0 < at → (p : ℕ) → ((b : Block) → p ≡ node (treeIn b vs count) at .parent) → p < nodeCeiling
@@ -122,7 +113,7 @@ module _ (count : ℕ) (ws : List ℕ) (k : Keeps ws count) where
           let u : p ≡ node t at .parent = q b ∙ ap (λ (s : Tree). node s at .parent) (only-tree b count table-names few (c .only)) in
           ap (λ (zs : List ℕ). marked zs namesAt x || climb t (left - 1) x p) e
           ∙ ap (λ (d : Bool). d || climb t (left - 1) x p) (marked-set vs namesAt p room x)
-          ∙ or-turn (eqb x p) (marked vs namesAt x) (climb t (left - 1) x p) (eqb p x) (eqb-swap x p)
+          ∙ or-turn (eqb x p) (marked vs namesAt x) (climb t (left - 1) x p) (eqb p x) (eqb-sym x p)
           ∙ ap (λ (y : ℕ). marked vs namesAt x || (eqb y x || climb t (left - 1) x y)) u
           ∙ ap (λ (d : Bool). marked vs namesAt x || d) (sym (climb-step t left x at h g))
           ∙ c .marks b x l;
@@ -196,7 +187,7 @@ module _ (count : ℕ) (ws : List ℕ) (keeps : Keeps ws count) where
           ∙ ap (λ (y : ℕ). eqb y 1 || below (treeIn b (lay vs (marksAt + j) (1 ∷ [])) count) x j) (lay-one-other vs (marksAt + j) 1 0 (namesAt + x) (λ q. omega (arith, a .marks, a .list, a .stack, node-inside, few)))
           ∙ ap (λ (s : Tree). marked vs namesAt x || below s x j) (only-tree b count (a .table) few first)
           ∙ ap (λ (d : Bool). d || below t x j) (n .over b x h)
-          ∙ or-swap (any (below t x) (listIn ws k)) (below t x j)
+          ∙ or-comm (any (below t x) (listIn ws k)) (below t x j)
           ∙ sym (any-last (below t x) (listIn ws k) j)
           ∙ ap (any (below t x)) (sym grown);
     }
@@ -215,12 +206,6 @@ module _ (count : ℕ) (ws : List ℕ) (keeps : Keeps ws count) where
 
         grown : listIn ws (k + 1) ≡ listIn ws k ++ (j ∷ [])
         grown = list-more ws k (omega (arith, a .list, a .stack, a .names, keeps .1 .room)) ∙ ap (λ (x : ℕ). listIn ws k ++ (x ∷ [])) (sym same-node)
-
-        or-swap : (a b : Bool) → (a || b) ≡ (b || a)
-        or-swap true true = refl
-        or-swap true false = refl
-        or-swap false true = refl
-        or-swap false false = refl
 
     pub noted-more : (mid : List ℕ) → mid ≡ lay vs (marksAt + j) (1 ∷ []) → (us : List ℕ) → Only namesAt workWords mid us
         → ((b : Block) (x : ℕ) → x < count → marked us namesAt x ≡ (marked mid namesAt x || below (treeIn b mid count) x j))

@@ -1,15 +1,12 @@
 -- Where the parts of the work space stand, of a node below the ceiling.
 use mathlib.Core.Path.{_≡_, refl, ap, _∙_}
-use mathlib.Core.Bool.{true, false}
 use mathlib.Core.List.{List, [], _∷_}
 use Prim.Native.Nat.{ℕ, _+_, _≤_, _<_}
 use native.Mathlib.Omega.{arith}
-use lib.Dec.{eqb}
-use lib.ListN.{length, getD}
+use lib.ListN.{getD}
 use Rattle.rules.specs.Ceilings.{nodeCeiling, nodeWords, workWords}
 use Rattle.rules.specs.Octets.{lay}
 use Rattle.rules.specs.Space.{tableWords, marksAt, listAt, stackAt, namesAt}
-use Rattle.rules.specs.Laws.Octets.{lay-one-same, lay-one-other}
 use Rattle.rules.specs.Laws.Kept.{Only, marks-behind, list-behind, stack-behind, names-behind}
 
 -- the parts, in order, up to the end

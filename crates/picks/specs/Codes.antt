@@ -3,17 +3,17 @@
 use mathlib.Core.Path.{_≡_, refl, sym, ap, _∙_}
 use mathlib.Core.Bool.{Bool, true, false, not, _&&_, _||_}
 use mathlib.Core.List.{List, [], _∷_}
-use Prim.Native.Nat.{ℕ, zero, suc, _<_}
+use Prim.Native.Nat.{ℕ, suc, _<_}
 use native.Mathlib.Omega.{arith}
 use lib.Dec.{eqb}
 use lib.ListN.{length}
-use borrow.Author.Tests.{eqb-true, eq-eqb}
+use borrow.Author.Tests.{eqb-true}
 use Rattle.rules.specs.Octets.{if_then_else_, ascii, same}
 use Rattle.rules.specs.Lists.{oneOf, any, keep}
 use Rattle.rules.specs.Tree.{Tree, node, below, climb, Frame, frame, numbers}
-use Rattle.rules.specs.Listing.{_∈_, within}
-use Rattle.rules.specs.Copy.{Asked, near, null, isCpus, cpuChild, stranger, picked}
-use Rattle.rules.specs.Laws.Tests.{by-test, never, and-true}
+use Rattle.rules.specs.Listing.{within}
+use Rattle.rules.specs.Copy.{Asked, near, null, isCpus, picked}
+use Rattle.rules.specs.Laws.Tests.{by-test, never, and-true, and-none, or-nothing}
 use Rattle.rules.specs.Laws.Lists.{any-same, mem-oneOf, not-oneOf, keep-of, of-keep, mem-numbers}
 use Rattle.rules.specs.Laws.Paths.{Formed, below-step}
 
@@ -103,18 +103,10 @@ one-keep p f x h = by-test (p x)
     (λ e. mem-oneOf (of-keep p (mem-numbers 0 (f .size) x (omega arith) (omega arith)) e) ∙ sym e)
     (λ e. not-oneOf x (keep p (numbers f)) (λ m. never (p x) (keep-of p (numbers f) x m .1) e) ∙ sym e)
 
-or-none : (a : Bool) → (a || false) ≡ a
-or-none true = refl
-or-none false = refl
-
-or-right-first : (a b c : Bool) → (a || (b || c)) ≡ (a || b || c)
-or-right-first true b c = refl
-or-right-first false b c = refl
-
 module _ (t : Tree) (w : Formed t) where
   pub within-root : (l : List ℕ) → within (frame t) l 0 ≡ oneOf 0 l
   unfolding within climb
-  within-root l = any-same (λ (e : ℕ). eqb 0 e || below t e 0) (eqb 0) l (λ z m. or-none (eqb 0 z)) ∙ sym (one-any 0 l)
+  within-root l = any-same (λ (e : ℕ). eqb 0 e || below t e 0) (eqb 0) l (λ z m. or-nothing (eqb 0 z)) ∙ sym (one-any 0 l)
 
   pub within-step : (l : List ℕ) (i : ℕ) → suc i < length t → within (frame t) l (suc i) ≡ (oneOf (suc i) l || within (frame t) l (node t (suc i) .parent))
   unfolding within
@@ -179,11 +171,7 @@ taken-picked q t w strange ls i =
     by false true true false X W o a e = refl
     by false false true true X W o a e = refl
     by false false true false X W o a e = refl
-    by false n false S true W o a e = rw e (no (W || o))
-      where
-        no : (b : Bool) → false ≡ (b && false)
-        no true = refl
-        no false = refl
+    by false n false S true W o a e = rw e (sym (and-none (W || o)))
     by false n false S false true o a e = rw e
     by false n false S false false true a e = rw e
     by false n false S false false false a e = rw e

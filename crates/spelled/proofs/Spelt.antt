@@ -12,9 +12,9 @@ use Rattle.rules.specs.Octets.{Bytes, closed, lay}
 use Rattle.rules.specs.Blob.{Block}
 use Rattle.rules.specs.Tree.{Tree, node, path, spell}
 use Rattle.rules.specs.Listing.{pathsBytes}
-use Rattle.rules.specs.Space.{tableWords, marksAt, listAt, stackAt, namesAt}
+use Rattle.rules.specs.Space.{tableWords, marksAt, listAt}
 use Rattle.rules.specs.Laws.Tests.{by-le}
-use Rattle.rules.specs.Laws.Octets.{lay-nil, lay-lay, length-lay}
+use Rattle.rules.specs.Laws.Octets.{lay-lay}
 use Rattle.rules.specs.Laws.Kept.{stack-behind, names-behind, names-inside}
 use Rattle.rules.specs.Laws.Tabled.{treeIn}
 use Rattle.paths.proofs.Spellings.{name-short, path-out}

@@ -1,7 +1,7 @@
 -- `configured` meets its contract. The invariant: the nodes laid, and those that the rest of the list names up to its first fault,
 -- are the whole; the rest of the list, judged with what was seen, is the whole list judged.
-use mathlib.Core.Path.{_≡_, sym, ap, _∙_}
-use mathlib.Core.Option.{Option, none, some}
+use mathlib.Core.Path.{sym, ap, _∙_}
+use mathlib.Core.Option.{none, some}
 use mathlib.Core.List.{[]}
 use Prim.Native.Nat.{_-_, _≤_}
 use native.Mathlib.Omega.{arith}

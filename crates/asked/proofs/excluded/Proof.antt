@@ -1,16 +1,14 @@
 -- `excluded` meets its contract. The invariant: the nodes laid, and those that the rest of the list names, are the whole.
-use mathlib.Core.Path.{_≡_, sym, ap, _∙_}
-use mathlib.Core.Option.{Option, none, some}
-use mathlib.Core.List.{[], _∷_}
-use Prim.Native.Nat.{ℕ, _-_, _≤_, _<_}
+use mathlib.Core.Path.{ap}
+use mathlib.Core.Option.{none, some}
+use mathlib.Core.List.{[]}
+use Prim.Native.Nat.{_-_, _≤_}
 use native.Mathlib.Omega.{arith}
 use lib.ListN.{length}
 use denote.Ref.{now}
 use Rattle.rules.specs.Ceilings.{nodeCeiling}
-use Rattle.rules.specs.Octets.{Bytes, lay, part}
-use Rattle.rules.specs.Laws.Octets.{length-lay}
+use Rattle.rules.specs.Octets.{Bytes, part}
 use Rattle.rules.specs.Tree.{frame}
-use Rattle.rules.specs.Derivation.{nodeAt}
 use Rattle.paths.specs.Trees.{treeOf}
 use Rattle.references.specs.Table.{found}
 use Rattle.given.specs.Entries.{path-tells}

@@ -1,12 +1,8 @@
 -- `accepted` meets its contract: judged, and, where it passes, listed, copied and written.
-use mathlib.Core.Path.{_≡_, refl, sym, ap, _∙_}
-use Prim.Native.Nat.{_≤_}
-use native.Mathlib.Omega.{arith}
-use lib.ListN.{length, replicate}
+use mathlib.Core.Path.{refl, ap}
 use denote.Ref.{now}
-use Rattle.rules.specs.Ceilings.{entryCeiling, nodeCeiling}
 use Rattle.references.specs.Cells.{blockOf}
-use Rattle.derive.specs.Answers.{checked, meaning}
+use Rattle.derive.specs.Answers.{checked}
 use Rattle.derive.proofs.Joining.{block-is, part-is, part-at, wide, whole, accepts-not, conf-few, start-asked, excl-few, accepts}
 use borrow.Author.Needs.{needs}
 use Rattle.derive.proofs.accepted.Statement.{statement}

@@ -1,11 +1,10 @@
 -- `derive` meets its contract: read, then judged, listed, copied and written, and the work space cleared.
-use mathlib.Core.Path.{_≡_, refl, sym, ap, _∙_, subst}
+use mathlib.Core.Path.{sym, ap, _∙_, subst}
 use mathlib.Core.List.{List}
 use Prim.Native.Nat.{ℕ}
 use lib.ListN.{length, drop}
 use denote.Ref.{now}
 use Rattle.rules.specs.Ceilings.{workWords}
-use Rattle.rules.specs.Derivation.{Derived}
 use Rattle.reader.specs.Answers.{meaning}
 use Rattle.derive.specs.Answered.{HostRead}
 use Rattle.derive.proofs.Joining.{cleared, space-length-kept, refused-answer, refused-list, refused-guest, refused-space, host-read, derived-is, derived-list, derived-guest, space-cleared}

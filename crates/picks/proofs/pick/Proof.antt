@@ -1,18 +1,11 @@
 -- `pick` meets its contract.
-use mathlib.Core.Path.{_≡_, sym, ap, _∙_}
-use mathlib.Core.Bool.{Bool}
-use mathlib.Core.List.{[], _∷_}
-use Prim.Native.Nat.{ℕ, _+_, _≤_, _<_}
-use native.Mathlib.Omega.{arith}
+use mathlib.Core.Path.{ap}
+use Prim.Native.Nat.{ℕ}
 use lib.Dec.{eqb}
-use lib.ListN.{length}
 use denote.Ref.{now}
 use Rattle.rules.specs.Ceilings.{nodeCeiling}
-use Rattle.rules.specs.Octets.{lay}
 use Rattle.rules.specs.Space.{marksAt, stackAt, namesAt}
-use Rattle.rules.specs.Laws.Octets.{length-lay}
 use Rattle.references.specs.Cells.{blockOf}
-use Rattle.picks.specs.Turns.{codeAt, markAt, turned}
 use Rattle.picks.proofs.Places.{marks-at, stack-at, names-at, word-at, put-at}
 use Rattle.picks.proofs.Coding.{turned-is}
 use borrow.Author.Needs.{needs}

@@ -1,8 +1,6 @@
 -- `picks` meets its contract.
-use mathlib.Core.Path.{_≡_, sym, ap, _∙_}
 use denote.Ref.{now}
 use Rattle.references.specs.Cells.{blockOf}
-use borrow.Author.Needs.{needs}
 use Rattle.picks.proofs.picks.Statement.{statement}
 use Rattle.picks.proofs.picks.Tie as tie
 

@@ -1,13 +1,12 @@
 -- `list_len` meets its contract. The invariant: the paths of the first k nodes are counted.
-use mathlib.Core.Path.{_≡_, refl, sym, ap, _∙_}
+use mathlib.Core.Path.{_≡_, sym, ap, _∙_}
 use mathlib.Core.List.{[]}
 use Prim.Native.Nat.{ℕ, _+_, _-_, _*_, _≤_}
 use native.Mathlib.Omega.{arith}
 use lib.ListN.{length}
 use denote.Ref.{now}
 use Rattle.rules.specs.Ceilings.{blobCeiling, nodeCeiling}
-use Rattle.rules.specs.Octets.{Bytes, lay}
-use Rattle.rules.specs.Laws.Octets.{lay-nil, length-lay}
+use Rattle.rules.specs.Octets.{Bytes}
 use Rattle.paths.specs.Trees.{treeOf}
 use Rattle.spelled.specs.Lists.{listBytes}
 use Rattle.spelled.proofs.Spelt.{longest, path-short, length-more, bytes-none}

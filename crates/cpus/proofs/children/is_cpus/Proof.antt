@@ -3,7 +3,6 @@ use mathlib.Core.Path.{sym, ap, _∙_}
 use denote.Ref.{now}
 use Rattle.rules.specs.Octets.{Bytes, ascii, same}
 use Rattle.rules.specs.Tree.{frame}
-use Rattle.rules.specs.Copy.{isCpus}
 use Rattle.paths.specs.Trees.{treeOf}
 use Rattle.cpus.proofs.Searches.{cpus-root, cpus-deep, cpus-named}
 use borrow.Author.Needs.{needs}

@@ -1,13 +1,11 @@
 -- `cpus_judged` meets its contract. The invariant: the nodes from here on, judged, are all of them judged.
-use mathlib.Core.Path.{_≡_, sym, ap, _∙_}
-use Prim.Native.Nat.{ℕ, suc, _+_, _-_, _≤_}
+use mathlib.Core.Path.{_≡_, sym, _∙_}
+use Prim.Native.Nat.{_-_, _≤_}
 use native.Mathlib.Omega.{arith}
 use native.Mathlib.Nat.{sub-zero}
-use native.Mathlib.Numerals.{add-one}
 use denote.Ref.{now}
-use Rattle.rules.specs.Tree.{numbersFrom, Node}
+use Rattle.rules.specs.Tree.{numbersFrom}
 use Rattle.rules.specs.Derivation.{cpusFrom}
-use Rattle.rules.specs.Laws.Tabled.{tree-length, node-in}
 use Rattle.paths.specs.Trees.{treeOf}
 use Rattle.cpus.proofs.Searches.{cpus-stop, cpus-on, cpus-last}
 use borrow.Author.Needs.{needs}

@@ -1,6 +1,5 @@
 -- `register_in` meets its contract: a case for each length.
-use mathlib.Core.Path.{sym, ap, _∙_}
-use native.Mathlib.Omega.{arith}
+use mathlib.Core.Path.{ap, _∙_}
 use denote.Ref.{now}
 use Rattle.cpus.specs.declared.register.Register.the-variants.{Number}
 use Rattle.cpus.proofs.Registers.{in-four, in-eight, in-other}

@@ -1,5 +1,5 @@
 -- `cpus_checked` meets its contract.
-use mathlib.Core.Path.{_≡_, sym, ap, _∙_}
+use mathlib.Core.Path.{sym, ap, _∙_}
 use denote.Ref.{now}
 use Rattle.paths.specs.Trees.{treeOf}
 use Rattle.cpus.specs.Answers.{refusedBy}

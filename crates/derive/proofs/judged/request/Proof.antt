@@ -1,15 +1,12 @@
 -- `request` meets its contract: lists, configured paths, CPU children and ids, one after the other.
-use mathlib.Core.Path.{_≡_, refl, sym, ap, _∙_}
-use Prim.Native.Nat.{_≤_}
+use mathlib.Core.Path.{refl, sym, ap, _∙_}
 use native.Mathlib.Omega.{arith}
 use lib.ListN.{length}
 use denote.Ref.{now}
-use Rattle.rules.specs.Tree.{frame}
 use Rattle.rules.specs.Laws.Octets.{length-lay}
 use Rattle.paths.specs.Trees.{treeOf}
 use Rattle.given.specs.Answers.{meaning as gmeaning}
 use Rattle.asked.specs.Answers.{meaning as ameaning}
-use Rattle.derive.specs.Answered.{Checks}
 use Rattle.derive.proofs.Checks.{lists-few, checks-lists, checks-named, checks-whole}
 use borrow.Author.Needs.{needs}
 use Rattle.derive.proofs.judged.request.Statement.{statement}

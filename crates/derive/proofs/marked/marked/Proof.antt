@@ -1,9 +1,7 @@
 -- `marked` meets its contract.
-use mathlib.Core.Path.{_≡_, sym, ap, _∙_}
 use denote.Ref.{now}
 use Rattle.references.specs.Cells.{blockOf}
 use Rattle.derive.proofs.Marks.{listed-kept, listed-inside, marks-joined}
-use borrow.Author.Needs.{needs}
 use Rattle.derive.proofs.marked.marked.Statement.{statement}
 use Rattle.derive.proofs.marked.marked.Tie as tie
 

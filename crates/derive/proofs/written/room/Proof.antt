@@ -1,7 +1,6 @@
 -- `room` meets its contract.
 use native.Mathlib.Omega.{arith}
 use Rattle.rules.specs.Ceilings.{blobCeiling}
-use borrow.Author.Needs.{needs}
 use Rattle.derive.proofs.written.room.Statement.{statement}
 use Rattle.derive.proofs.written.room.Tie as tie
 

@@ -1,8 +1,6 @@
 -- `written` meets its contract: listed and marked, measured, and written where both fit.
-use mathlib.Core.Path.{_≡_, refl, sym, ap, _∙_}
-use Prim.Native.Nat.{_≤_, _<_}
+use mathlib.Core.Path.{refl}
 use native.Mathlib.Omega.{arith}
-use lib.ListN.{length}
 use denote.Ref.{now}
 use Rattle.references.specs.Cells.{blockOf}
 use Rattle.derive.proofs.Writing.{ready, ready-first, rest-is, writes-45, writes-46, guest-room, writes-both}

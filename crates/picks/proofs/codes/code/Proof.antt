@@ -1,9 +1,7 @@
 -- `code` meets its contract: a case for each test.
-use mathlib.Core.Path.{_≡_, sym, ap, _∙_}
-use Prim.Native.Nat.{ℕ, _+_, _≤_, _<_}
-use native.Mathlib.Omega.{arith}
+use mathlib.Core.Path.{sym, ap, _∙_}
+use Prim.Native.Nat.{ℕ}
 use lib.Dec.{eqb}
-use lib.ListN.{length}
 use lib.Seq.{take-length}
 use denote.Ref.{now}
 use Rattle.rules.specs.Ceilings.{nodeCeiling}

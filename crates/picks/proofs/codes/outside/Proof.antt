@@ -1,7 +1,5 @@
 -- `outside` meets its contract: a case for each test.
-use mathlib.Core.Path.{_≡_, sym, ap, _∙_}
 use borrow.Author.Tests.{eq-eqb, ne-eqb}
-use borrow.Author.Needs.{needs}
 use Rattle.picks.proofs.codes.outside.Statement.{statement}
 use Rattle.picks.proofs.codes.outside.Tie as tie
 

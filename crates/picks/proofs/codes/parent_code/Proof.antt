@@ -1,8 +1,6 @@
 -- `parent_code` meets its contract.
-use mathlib.Core.Path.{_≡_, sym, ap, _∙_}
-use Prim.Native.Nat.{ℕ, _+_}
+use mathlib.Core.Path.{_∙_}
 use native.Mathlib.Omega.{arith}
-use lib.ListN.{getD}
 use denote.Ref.{now}
 use Rattle.rules.specs.Ceilings.{nodeCeiling}
 use Rattle.picks.proofs.Coding.{parent-none, parent-some}

@@ -1,12 +1,9 @@
 -- `above` meets its contract. The invariant: what is marked, and what is above the node that is come to, are the whole.
-use mathlib.Core.Path.{_≡_, sym, ap, _∙_}
 use mathlib.Core.Logic.{inl, inr}
-use Prim.Native.Nat.{_+_, _-_, _≤_, _<_}
+use Prim.Native.Nat.{_-_}
 use native.Mathlib.Omega.{arith}
-use lib.ListN.{length}
 use denote.Ref.{now}
 use Rattle.rules.specs.Ceilings.{nodeCeiling}
-use Rattle.rules.specs.Laws.Octets.{length-lay}
 use Rattle.rules.specs.Space.{namesAt}
 use Rattle.picks.proofs.Places.{names-at, put-at}
 use Rattle.picks.proofs.Marking.{Climbing, climbing-first, climbing-done, climbing-more, up-small}

@@ -1,8 +1,6 @@
 -- `clear` meets its contract.
-use mathlib.Core.Path.{_≡_}
-use Prim.Native.Nat.{_+_, _-_, _≤_}
+use Prim.Native.Nat.{_-_, _≤_}
 use native.Mathlib.Omega.{arith}
-use lib.ListN.{length}
 use denote.Ref.{now}
 use Rattle.picks.proofs.Marking.{Cleared, cleared-none, cleared-more}
 use borrow.Author.Needs.{needs}

@@ -1,13 +1,10 @@
 -- `ways` meets its contract.
-use mathlib.Core.Path.{_≡_, sym, ap, _∙_}
-use Prim.Native.Nat.{_+_, _≤_}
 use native.Mathlib.Omega.{arith}
 use denote.Ref.{now}
 use Rattle.rules.specs.Ceilings.{nodeCeiling}
 use Rattle.rules.specs.Space.{marksAt, namesAt}
 use Rattle.picks.proofs.Places.{apart, marks-at, names-at, node-ceiling, cleared-as}
 use Rattle.picks.proofs.Marking.{cleared-keeps, cleared-small, cleared-none-marked, cleared-noted}
-use borrow.Author.Needs.{needs}
 use Rattle.picks.proofs.marks.ways.Statement.{statement}
 use Rattle.picks.proofs.marks.ways.Tie as tie
 
