@@ -1,6 +1,6 @@
 -- The search for `reg` over tokens is the look into the properties that they say; and 4 or 8 bytes as one number.
 use mathlib.Core.Path.{_≡_, refl, sym, ap, _∙_}
-use mathlib.Core.Bool.{Bool, true, false, _||_}
+use mathlib.Core.Bool.{true, false, _||_}
 use mathlib.Core.List.{List, [], _∷_}
 use mathlib.Core.Option.{Option, none, some}
 use Prim.Native.Nat.{ℕ, _≤_, _<_}
@@ -11,10 +11,10 @@ use borrow.Author.Tests.{ne-eqb}
 use types.Run.{OneOf, miss}
 use denote.Enum.Declared.{tagOf}
 use Rattle.rules.proofs.Token as tokened
-use Rattle.rules.specs.Octets.{Bytes, byteAt, wordAt, longAt, number, numberAfter, part, ascii, same}
+use Rattle.rules.specs.Octets.{Bytes, wordAt, longAt, number, numberAfter, part, ascii, same}
 use Rattle.rules.specs.Blob.{Block}
 use Rattle.rules.specs.Tokens.{tokenAt}
-use Rattle.rules.specs.Events.{Property, Event, has, stringAt, saying}
+use Rattle.rules.specs.Events.{Property, Event, stringAt, saying}
 use Rattle.rules.specs.Tree.{Node, node, propsOf, valueOf}
 use Rattle.rules.specs.Copy.{registerOf, regOf}
 use Rattle.rules.specs.declared.Token.{Token}

@@ -2,7 +2,7 @@
 use mathlib.Core.Path.{_≡_, refl, sym, ap, _∙_}
 use mathlib.Core.Bool.{Bool, true, false, not, _&&_, _||_}
 use mathlib.Core.List.{List, [], _∷_}
-use mathlib.Core.Option.{Option, none, some}
+use mathlib.Core.Option.{Option}
 use Prim.Native.Nat.{ℕ, suc, _+_, _-_, _≤_, _<_}
 use native.Mathlib.Omega.{arith}
 use native.Mathlib.Nat.{sub-zero}
@@ -11,12 +11,12 @@ use lib.Dec.{eqb}
 use lib.ListN.{length, getD, drop, drop-of-length-le}
 use lib.Seq.{drop-cons}
 use borrow.Author.Tests.{eq-eqb, ne-eqb}
-use Rattle.rules.specs.Octets.{Bytes, ascii, same, begins}
+use Rattle.rules.specs.Octets.{ascii, same, begins}
 use Rattle.rules.specs.Lists.{oneOf, any}
 use Rattle.rules.specs.Outcome.{passes, refuses}
 use Rattle.rules.specs.Blob.{Block, missing}
 use Rattle.rules.specs.Tree.{Node, Tree, node, Frame, frame, numbers, numbersFrom}
-use Rattle.rules.specs.Copy.{isCpus, cpuChild, regOf, isId, stranger}
+use Rattle.rules.specs.Copy.{isCpus, cpuChild, regOf, isId}
 use Rattle.rules.specs.Derivation.{cpusFrom, met, idsFrom}
 use Rattle.rules.specs.Laws.Tabled.{cell, treeIn, tree-length, node-in}
 

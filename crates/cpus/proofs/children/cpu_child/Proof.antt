@@ -4,7 +4,6 @@ use denote.Ref.{now}
 use borrow.Author.Tests.{not-true, not-false}
 use Rattle.rules.specs.Octets.{Bytes, ascii, same, begins}
 use Rattle.rules.specs.Tree.{frame}
-use Rattle.rules.specs.Copy.{isCpus}
 use Rattle.paths.specs.Trees.{treeOf}
 use Rattle.cpus.proofs.Searches.{child-elsewhere, child-plain, child-begins}
 use borrow.Author.Needs.{needs}

@@ -1,6 +1,6 @@
 -- `is_id` meets its contract. The invariant: it is one of all exactly if it is one of the rest.
 use mathlib.Core.Path.{_≡_, sym, _∙_}
-use Prim.Native.Nat.{_-_, _≤_}
+use Prim.Native.Nat.{_-_}
 use native.Mathlib.Omega.{arith}
 use lib.ListN.{length, drop}
 use denote.Ref.{now}

@@ -1,13 +1,10 @@
 -- `stranger` meets its contract.
-use mathlib.Core.Path.{_≡_, refl, sym, ap, _∙_}
-use mathlib.Core.Bool.{Bool, true, false, not}
-use mathlib.Core.List.{[], _∷_}
+use mathlib.Core.Path.{refl, sym, ap, _∙_}
+use mathlib.Core.Bool.{not}
 use mathlib.Core.Option.{Option, some, none}
 use Prim.Native.Nat.{ℕ}
-use native.Mathlib.Omega.{arith}
 use denote.Ref.{now}
 use borrow.Author.Tests.{not-true, not-false}
-use Rattle.rules.specs.Blob.{missing}
 use Rattle.rules.specs.Tree.{node, frame}
 use Rattle.rules.specs.Copy.{cpuChild, regOf, isId}
 use Rattle.paths.specs.Trees.{treeOf}

@@ -1,15 +1,11 @@
 -- `bare` meets its contract.
-use mathlib.Core.Path.{_≡_, refl, sym, ap, _∙_}
-use mathlib.Core.Bool.{Bool, true, false, not}
-use mathlib.Core.List.{[], _∷_}
-use mathlib.Core.Option.{Option, some, none}
-use Prim.Native.Nat.{ℕ}
-use native.Mathlib.Omega.{arith}
+use mathlib.Core.Path.{refl, sym, ap, _∙_}
+use mathlib.Core.Option.{some, none}
 use denote.Ref.{now}
 use borrow.Author.Tests.{not-true, not-false}
 use Rattle.rules.specs.Blob.{missing}
 use Rattle.rules.specs.Tree.{node, frame}
-use Rattle.rules.specs.Copy.{cpuChild, regOf, isId}
+use Rattle.rules.specs.Copy.{cpuChild, regOf}
 use Rattle.paths.specs.Trees.{treeOf}
 use Rattle.cpus.specs.Registers.{meaning}
 use Rattle.cpus.proofs.Searches.{no-child, the-child}
