@@ -8,8 +8,7 @@ use Rattle.rules.specs.Tree.{node, frame}
 use Rattle.rules.specs.Copy.{cpuChild, regOf, isId}
 use Rattle.paths.specs.Trees.{treeOf}
 use Rattle.cpus.specs.Registers.{meaning}
-use Rattle.cpus.proofs.Searches.{no-child, the-child}
-use Rattle.cpus.proofs.Searches.{one-only}
+use Rattle.cpus.proofs.Searches.{no-child, the-child, one-only}
 use borrow.Author.Needs.{needs}
 use Rattle.cpus.proofs.judged.meets.Statement.{statement}
 use Rattle.cpus.proofs.judged.meets.Tie as tie
