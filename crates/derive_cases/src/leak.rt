@@ -1,8 +1,8 @@
 // Derives again from a host of which some bytes are changed, and counts the runs whose answer, list or guest is not the first one's.
 // The script says which bytes: those that are withheld, and, so that a difference is seen to be one, some that are not.
-use told::TOLD;
-use told::print_number;
-use told::put_answer;
+use crate::told::TOLD;
+use crate::told::print_number;
+use crate::told::put_answer;
 
 // What stands for all the spans where a run names the byte to change.
 const ALL: u32 = 0xffffffff;

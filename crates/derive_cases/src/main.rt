@@ -80,11 +80,15 @@ fn put_ids(ids: &mut [u64], raw: &[u8]) {
     }
 }
 
+// How many bytes n ids have in the script; none where there is no room for them.
+fn id_bytes(n: usize) -> usize {
+    if n <= IDS { n * 8 } else { 0 }
+}
+
 fn take_ids(ids: &mut [u64], n: usize) {
     let mut raw = [0u8; 528];
-    if n <= IDS {
-        take(&mut raw, n * 8);
-    }
+    let m = id_bytes(n);
+    take(&mut raw, m);
     put_ids(ids, &raw);
 }
 
@@ -172,7 +176,7 @@ fn head_of(s: &[u8]) -> Head {
     }
 }
 
-// Derives, and prints the answer and what is left in the buffers.
+// Derives into buffers that show what is written.
 fn derived(
     host: &[u8],
     configured: &[u8],
@@ -190,6 +194,10 @@ fn derived(
         told,
         derive::derive(host, configured, excluded, ids, work, list, guest),
     );
+}
+
+// Prints the answer, and what is left in the buffers.
+fn shown(told: &[u8], list: &[u8], guest: &[u8], work: &[u32]) {
     print_answer(told);
     print_digest(b", left ", digest(list));
     print_digest(b" ", digest(guest));
@@ -293,6 +301,12 @@ fn run(
         &mut list[..l],
         &mut guest[..g],
         &mut told,
+    );
+    shown(
+        &told,
+        octets::part(list, 0, l),
+        octets::part(guest, 0, g),
+        &work[..w],
     );
     if rooms.runs > 0 {
         again(
