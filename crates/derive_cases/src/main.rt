@@ -204,6 +204,47 @@ fn shown(told: &[u8], list: &[u8], guest: &[u8], work: &[u32]) {
     print_digest(b" ", digest_words(work));
 }
 
+fn first(
+    host: &[u8],
+    configured: &[u8],
+    excluded: &[u8],
+    ids: &[u64],
+    work: &mut [u32],
+    list: &mut [u8],
+    guest: &mut [u8],
+    told: &mut [u8],
+) {
+    derived(host, configured, excluded, ids, work, list, guest, told);
+    shown(told, list, guest, work);
+}
+
+// Derives on as much of the buffers as the case lends.
+fn within_rooms(
+    host: &[u8],
+    configured: &[u8],
+    excluded: &[u8],
+    ids: &[u64],
+    work: &mut [u32],
+    list: &mut [u8],
+    guest: &mut [u8],
+    told: &mut [u8],
+    rooms: Rooms,
+) {
+    let w = within_words(rooms.words, work);
+    let l = within(rooms.list, list);
+    let g = within(rooms.guest, guest);
+    first(
+        host,
+        configured,
+        excluded,
+        ids,
+        &mut work[..w],
+        &mut list[..l],
+        &mut guest[..g],
+        told,
+    );
+}
+
 // Runs again on buffers as long as the first ones.
 fn compared(
     host: &[u8],
@@ -277,38 +318,34 @@ fn again(
     );
 }
 
-// Runs the case on as much of the buffers as it lends.
+// Runs the case, and what it says to run again.
 fn run(
     host: &[u8],
     configured: &[u8],
     excluded: &[u8],
     ids: &[u64],
-    work: &mut [u32],
-    list: &mut [u8],
-    guest: &mut [u8],
+    work: &mut [u32; WORDS],
+    list: &mut [u8; PART],
+    guest: &mut [u8; BLOB],
     rooms: Rooms,
 ) {
     let mut told = [0u8; TOLD];
-    let w = within_words(rooms.words, work);
-    let l = within(rooms.list, list);
-    let g = within(rooms.guest, guest);
-    derived(
+    let l = rooms.list;
+    let g = rooms.guest;
+    let spans = rooms.spans;
+    let runs = rooms.runs;
+    within_rooms(
         host,
         configured,
         excluded,
         ids,
-        &mut work[..w],
-        &mut list[..l],
-        &mut guest[..g],
+        work,
+        list,
+        guest,
         &mut told,
+        rooms,
     );
-    shown(
-        &told,
-        octets::part(list, 0, l),
-        octets::part(guest, 0, g),
-        &work[..w],
-    );
-    if rooms.runs > 0 {
+    if runs > 0 {
         again(
             host,
             configured,
@@ -318,27 +355,11 @@ fn run(
             &told,
             octets::part(list, 0, l),
             octets::part(guest, 0, g),
-            rooms.spans,
-            rooms.runs,
+            spans,
+            runs,
         );
     }
     io::write_all(STDOUT_FILENO, b"\n");
-}
-
-fn lend(host: &[u8], configured: &[u8], excluded: &[u8], ids: &[u64], rooms: Rooms) {
-    let mut work = [0u32; WORDS];
-    let mut list = [0u8; PART];
-    let mut guest = [0u8; BLOB];
-    run(
-        host,
-        configured,
-        excluded,
-        ids,
-        &mut work,
-        &mut list,
-        &mut guest,
-        rooms,
-    );
 }
 
 // Makes the ids those that the case gives.
@@ -348,50 +369,83 @@ fn with_ids(
     excluded: &[u8],
     ids: &mut [u64],
     n: usize,
+    guest: &mut [u8; BLOB],
     rooms: Rooms,
 ) {
+    let mut work = [0u32; WORDS];
+    let mut list = [0u8; PART];
     take_ids(ids, n);
     let m = within_longs(n, ids);
-    lend(host, configured, excluded, &ids[..m], rooms);
-}
-
-// Reads what a case gives, and runs it.
-fn taken(head: Head) {
-    let mut label = [0u8; LABEL];
-    let mut host = [0u8; BLOB];
-    let mut rest = [0u8; PART];
-    let mut configured = [0u8; PART];
-    let mut excluded = [0u8; PART];
-    let mut ids = [0u64; IDS];
-    let text = take(&mut label, head.label);
-    io::write_all(STDOUT_FILENO, octets::part(&label, 0, text));
-    let len = take_host(&mut host, &mut rest, head.front, head.zeros, head.rest);
-    let c = take(&mut configured, head.configured);
-    let x = take(&mut excluded, head.excluded);
-    with_ids(
-        octets::part(&host, 0, len),
-        octets::part(&configured, 0, c),
-        octets::part(&excluded, 0, x),
-        &mut ids,
-        head.ids,
-        head.rooms,
+    run(
+        host,
+        configured,
+        excluded,
+        &ids[..m],
+        &mut work,
+        &mut list,
+        guest,
+        rooms,
     );
 }
 
+// Reads the lists that a case gives, and runs it.
+fn with_lists(
+    host: &[u8],
+    guest: &mut [u8; BLOB],
+    configured_len: usize,
+    excluded_len: usize,
+    n: usize,
+    rooms: Rooms,
+) {
+    let mut configured = [0u8; PART];
+    let mut excluded = [0u8; PART];
+    let mut ids = [0u64; IDS];
+    let c = take(&mut configured, configured_len);
+    let x = take(&mut excluded, excluded_len);
+    with_ids(
+        host,
+        octets::part(&configured, 0, c),
+        octets::part(&excluded, 0, x),
+        &mut ids,
+        n,
+        guest,
+        rooms,
+    );
+}
+
+fn print_label(n: usize) {
+    let mut label = [0u8; LABEL];
+    let text = take(&mut label, n);
+    io::write_all(STDOUT_FILENO, octets::part(&label, 0, text));
+}
+
 // One case; false where there is none left.
-fn next() -> bool {
+fn next(host: &mut [u8; BLOB], rest: &mut [u8; PART], guest: &mut [u8; BLOB]) -> bool {
     let mut s = [0u8; HEAD];
     let got = io::read_full(STDIN_FILENO, &mut s);
     if got < HEAD {
         return false;
     }
-    taken(head_of(&s));
+    let head = head_of(&s);
+    print_label(head.label);
+    let len = take_host(host, rest, head.front, head.zeros, head.rest);
+    with_lists(
+        octets::part(host, 0, len),
+        guest,
+        head.configured,
+        head.excluded,
+        head.ids,
+        head.rooms,
+    );
     true
 }
 
 fn main() {
+    let mut host = [0u8; BLOB];
+    let mut rest = [0u8; PART];
+    let mut guest = [0u8; BLOB];
     let mut turns: u32 = 100000;
-    while turns > 0 && next() {
+    while turns > 0 && next(&mut host, &mut rest, &mut guest) {
         turns -= 1;
     }
 }
