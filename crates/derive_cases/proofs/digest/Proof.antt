@@ -1,0 +1,51 @@
+-- `digest` ends.
+use Prim.Native.Nat.{_≤_, _-_}
+use borrow.Author.Needs.{needs}
+use lib.ListN.{length}
+use Rattle.derive_cases.proofs.digest.Statement.{statement}
+use Rattle.derive_cases.proofs.digest.Tie as tie
+
+abbrev Inv-loop : tie.InvT-loop
+Inv-loop s h₀ i₀ h i = i ≤ length s
+
+abbrev μ-loop : tie.MeasureT-loop
+μ-loop s h₀ i₀ h i = length s - i
+
+loop-holds : tie.Need-loop-holds Inv-loop μ-loop
+loop-holds c = search needs
+
+byte-requires : tie.Need-byte-requires Inv-loop μ-loop
+byte-requires c κs = search needs
+
+cast-mixed : tie.Need-cast-mixed Inv-loop μ-loop
+cast-mixed c = search needs
+
+mixed-requires : tie.Need-mixed-requires Inv-loop μ-loop
+mixed-requires c κs = search needs
+
+add-i : tie.Need-add-i Inv-loop μ-loop
+add-i c = search needs
+
+loop-less : tie.Need-loop-less Inv-loop μ-loop
+loop-less c = search needs
+
+loop-again : tie.Need-loop-again Inv-loop μ-loop
+loop-again c = search needs
+
+returns : tie.Need-returns Inv-loop μ-loop
+returns c = search needs
+
+pub digest-spec : {M : Type 1} → statement M
+digest-spec =
+    tie.close
+    (tie.spec
+    Inv-loop
+    μ-loop
+    loop-holds
+    byte-requires
+    cast-mixed
+    mixed-requires
+    add-i
+    loop-less
+    loop-again
+    returns)
