@@ -31,6 +31,9 @@ use Rattle.rules.specs.Laws.TabledRead.{tree-read}
 use Rattle.rules.specs.Laws.References.{by-option}
 use Rattle.asked.specs.Nodes.{named-step, named-skip}
 use Rattle.order.specs.Starts as start
+use types.Run.{OneOf, miss}
+use denote.Enum.Declared.{tagOf}
+use Rattle.reader.proofs.Refusal as refusal-declared
 use Rattle.reader.specs.declared.Refusal.{Refusal as ReaderRefusal}
 use Rattle.reader.specs.declared.Refusal.the-variants.{NoSpace, Short, Magic, Total, Version, Layout, Shape, Name, Deep, Many, Doubled, Cells, Shared}
 use Rattle.reader.specs.Answers.{refused as read-refused}
@@ -38,7 +41,7 @@ use Rattle.derive.specs.declared.Refusal.{Refusal}
 use Rattle.derive.specs.declared.Refusal.the-variants.{NoSpace as None, Reader, Lists, Configured, Register, Unmet, List as TooLong, Guest}
 use Rattle.derive.specs.declared.Answer.{Answer}
 use Rattle.derive.specs.declared.judged.Checked.{Checked}
-use Rattle.derive.specs.Answers.{refused, meaning, checked}
+use Rattle.derive.specs.Answers.{inside, refused, meaning, checked}
 use Rattle.derive.specs.Answered.{Checks, HostRead, answered, Accepts}
 use Rattle.derive.specs.Written.{Whole, listBytes, copyBytes, roomy, Writes}
 use Rattle.derive.proofs.Checks.{lists-few, lists-granted, then-refuses, then-gives}
@@ -66,9 +69,24 @@ read-said (Doubled at) = record { number = 10; place = at; first = refl; second 
 read-said (Cells at) = record { number = 11; place = at; first = refl; second = refl }
 read-said (Shared at) = record { number = 12; place = at; first = refl; second = refl }
 
+inside-said : {A B : Type 0} (r : ReaderRefusal) → Said (inside {A = A} r) (inside {A = B} r)
+inside-said NoSpace = record { number = 0; place = 0; first = refl; second = refl }
+inside-said Short = record { number = 1; place = 0; first = refl; second = refl }
+inside-said Magic = record { number = 2; place = 0; first = refl; second = refl }
+inside-said Total = record { number = 3; place = 0; first = refl; second = refl }
+inside-said Version = record { number = 4; place = 0; first = refl; second = refl }
+inside-said Layout = record { number = 5; place = 0; first = refl; second = refl }
+inside-said (Shape at) = record { number = 6; place = at; first = refl; second = refl }
+inside-said (Name at) = record { number = 7; place = at; first = refl; second = refl }
+inside-said (Deep at) = record { number = 8; place = at; first = refl; second = refl }
+inside-said (Many at) = record { number = 9; place = at; first = refl; second = refl }
+inside-said (Doubled at) = record { number = 10; place = at; first = refl; second = refl }
+inside-said (Cells at) = record { number = 11; place = at; first = refl; second = refl }
+inside-said (Shared at) = record { number = 12; place = at; first = refl; second = refl }
+
 said : {A B : Type 0} (r : Refusal) → Said (refused {A = A} r) (refused {A = B} r)
 said None = record { number = 40; place = 0; first = refl; second = refl }
-said {A} {B} (Reader r) = let s = read-said {A = A} {B = B} r in record { number = s .number; place = s .place; first = s .first; second = s .second }
+said {A} {B} (Reader r) = let s = inside-said {A = A} {B = B} r in record { number = s .number; place = s .place; first = s .first; second = s .second }
 said (Lists at) = record { number = 41; place = at; first = refl; second = refl }
 said (Configured at) = record { number = 42; place = at; first = refl; second = refl }
 said (Register at) = record { number = 43; place = at; first = refl; second = refl }
@@ -307,3 +325,20 @@ module _ (host : Bytes) (q : Request) (work : List ℕ) where
 
     pub refused-space : readWork host work ≡ deriveWork work
     refused-space = space-left (reader-said .number) (reader-said .place) numbered
+
+-- ---- what the reader refuses besides 40 is carried as it is
+
+pub carried : (r : ReaderRefusal) → OneOf (1 ∷ 2 ∷ 3 ∷ 4 ∷ 5 ∷ 6 ∷ 7 ∷ 8 ∷ 9 ∷ 10 ∷ 11 ∷ 12 ∷ []) (tagOf refusal-declared.the-type r) → inside {A = Derived} r ≡ read-refused {A = Derived} r
+carried NoSpace h = absurd (miss (1 ∷ 2 ∷ 3 ∷ 4 ∷ 5 ∷ 6 ∷ 7 ∷ 8 ∷ 9 ∷ 10 ∷ 11 ∷ 12 ∷ []) 0 tt h)
+carried Short h = refl
+carried Magic h = refl
+carried Total h = refl
+carried Version h = refl
+carried Layout h = refl
+carried (Shape at) h = refl
+carried (Name at) h = refl
+carried (Deep at) h = refl
+carried (Many at) h = refl
+carried (Doubled at) h = refl
+carried (Cells at) h = refl
+carried (Shared at) h = refl

@@ -3,3 +3,4 @@ pub mod Checks
 pub mod Marks
 pub mod Writing
 pub mod Joining
+pub mod Unique

@@ -3,7 +3,6 @@ use mathlib.Core.Path.{_≡_, refl}
 use Prim.Native.Nat.{ℕ}
 use Rattle.rules.specs.Outcome.{Outcome, gives, refuses}
 use Rattle.rules.specs.Derivation.{Derived}
-use Rattle.reader.specs.Answers as reader
 use Rattle.reader.specs.declared.Refusal as reader-declared
 use Rattle.reader.specs.declared.Refusal.the-variants as read
 use Rattle.derive.specs.Answers as derive
@@ -19,10 +18,10 @@ placeIn (gives a) = 0
 placeIn (refuses number place) = place
 
 abbrev pub readerNumber : reader-declared.Refusal → ℕ
-readerNumber r = numberIn (reader.refused r)
+readerNumber r = numberIn (derive.inside r)
 
 abbrev pub readerPlace : reader-declared.Refusal → ℕ
-readerPlace r = placeIn (reader.refused r)
+readerPlace r = placeIn (derive.inside r)
 
 abbrev pub numberOf : derive-declared.Refusal → ℕ
 numberOf r = numberIn (derive.refused r)
@@ -30,7 +29,7 @@ numberOf r = numberIn (derive.refused r)
 abbrev pub placeOf : derive-declared.Refusal → ℕ
 placeOf r = placeIn (derive.refused r)
 
-reader-told : (r : reader-declared.Refusal) → reader.refused {A = Derived} r ≡ refuses (readerNumber r) (readerPlace r)
+reader-told : (r : reader-declared.Refusal) → derive.inside {A = Derived} r ≡ refuses (readerNumber r) (readerPlace r)
 reader-told read.NoSpace = refl
 reader-told read.Short = refl
 reader-told read.Magic = refl

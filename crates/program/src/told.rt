@@ -3,11 +3,12 @@ use derive::Refusal;
 ghost use mathlib.Core.Path.{_≡_};
 ghost use Rattle.program.specs.Told.{readerNumber, readerPlace, numberOf, placeOf};
 
+// The number of a reader's refusal that is carried inside. 40 is not carried: it is the derivation's own.
 fn reader_number(refusal: reader::Refusal) -> u64
     ensures { λ r. ⌜ r ≡ readerNumber refusal ⌝ }
 {
     match refusal {
-        reader::Refusal::NoSpace => 40,
+        reader::Refusal::NoSpace => 0,
         reader::Refusal::Short => 1,
         reader::Refusal::Magic => 2,
         reader::Refusal::Total => 3,

@@ -1,7 +1,8 @@
 -- `refused_by` meets its contract.
-use mathlib.Core.Path.{refl, sym, ap}
+use mathlib.Core.Path.{sym, ap}
 use Rattle.rules.specs.Derivation.{Derived}
 use Rattle.reader.specs.Answers.{refused as read}
+use Rattle.derive.proofs.Joining.{carried}
 use borrow.Author.Needs.{needs}
 use Rattle.derive.proofs.refused_by.Statement.{statement}
 use Rattle.derive.proofs.refused_by.Tie as tie
@@ -13,7 +14,7 @@ returns : tie.Need-returns
 returns c = sym (ap (read {A = Derived}) (c .enum-told .given .1))
 
 returns-2 : tie.Need-returns-2
-returns-2 c = refl
+returns-2 c = carried (c .before .args .refusal) (c .match .keys2)
 
 pub refused-by-spec : {M : Type 1} → statement M
 refused-by-spec = tie.close (tie.spec enum-told returns returns-2)
