@@ -273,6 +273,9 @@ def orders():
     yield Case("around the slash, /s", t, [b"/s"], list=4096)
     yield Case("around the slash, /a and /s/a", t, [b"/s/a", b"/a"], list=4096)
     yield Case("new nodes below each", t, [b"/s/a/b", b"/s", b"/a/b/c", b"/a"], list=4096)
+    rng = random.Random(6)
+    most = [node(b"%x" % k) for k in rng.sample(range(4096), 2047)]
+    yield Case("2048 nodes, the root configured", blob(*most), [b"/"], [b"/" + most[9][0]], list=16384, guest=32768)
     yield Case("soc2 beside soc", blob(node(b"soc", [], node(b"a")), node(b"soc2", [], node(b"b")), node(b"soc-x", [], node(b"c"))), [b"/soc"])
     yield Case("soc2 beside an excluded soc", blob(node(b"soc", [], node(b"a")), node(b"soc2", [], node(b"b"))), [b"/"], [b"/soc"])
     # references from all of a start's nodes, in an order that only a stack gives
@@ -391,7 +394,7 @@ KINDS = [b"a", b"a-b", b"a.b", b"a0", b"b", b"soc", b"soc2", b"cpus", b"cpus", b
 
 def draws():
     rng, k = random.Random(20), 0
-    while k < 40:
+    while k < 30:
         tree = drawn(rng)
         host = blob(*tree[2], props=tree[1])
         paths = deriving.Host(host).path
