@@ -283,6 +283,11 @@ def orders():
     yield Case("last found first taken", blob(*f), [b"/f1"])
     yield Case("from two starts", blob(*f), [b"/f4", b"/f3"])
     yield Case("starts descending", blob(*f, node(b"a", [(b"clocks", w(1))]), node(b"b", [(b"clocks", w(2))])), [b"/a", b"/b"])
+    slash = blob(node(b"a", [(b"clocks", w(1))], node(b"b", [(b"clocks", w(2))])), node(b"a-b", [(b"clocks", w(3))]), node(b"a0", [(b"clocks", w(4))]),
+                 *[node(b"d%d" % k, [handle(k)]) for k in (1, 2, 3, 4)])
+    yield Case("starts around the slash", slash, [b"/a", b"/a0", b"/a-b"])
+    twice = blob(node(b"a", [(b"clocks", w(1, 2))]), node(b"d1", [handle(1)]), node(b"d2", [handle(2), (b"clocks", w(3, 1))]), node(b"d3", [handle(3)]))
+    yield Case("noted when found", twice, [b"/a"])
     yield Case("a start is no dependency", blob(*f), [b"/f6", b"/f2"])
     yield Case("a cycle", blob(node(b"a", [handle(1), (b"clocks", w(2))]), node(b"b", [handle(2), (b"clocks", w(1))])), [b"/a"])
     yield Case("self reference", blob(node(b"a", [handle(1), (b"clocks", w(1))])), [b"/a"])
