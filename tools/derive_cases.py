@@ -273,6 +273,9 @@ def orders():
     yield Case("around the slash, /s", t, [b"/s"], list=4096)
     yield Case("around the slash, /a and /s/a", t, [b"/s/a", b"/a"], list=4096)
     yield Case("new nodes below each", t, [b"/s/a/b", b"/s", b"/a/b/c", b"/a"], list=4096)
+    rng = random.Random(6)
+    most = [node(b"%x" % k) for k in rng.sample(range(4096), 2047)]
+    yield Case("2048 nodes, the root configured", blob(*most), [b"/"], [b"/" + most[9][0]], list=16384, guest=32768)
     yield Case("soc2 beside soc", blob(node(b"soc", [], node(b"a")), node(b"soc2", [], node(b"b")), node(b"soc-x", [], node(b"c"))), [b"/soc"])
     yield Case("soc2 beside an excluded soc", blob(node(b"soc", [], node(b"a")), node(b"soc2", [], node(b"b"))), [b"/"], [b"/soc"])
     # references from all of a start's nodes, in an order that only a stack gives
@@ -280,6 +283,11 @@ def orders():
     yield Case("last found first taken", blob(*f), [b"/f1"])
     yield Case("from two starts", blob(*f), [b"/f4", b"/f3"])
     yield Case("starts descending", blob(*f, node(b"a", [(b"clocks", w(1))]), node(b"b", [(b"clocks", w(2))])), [b"/a", b"/b"])
+    slash = blob(node(b"a", [(b"clocks", w(1))], node(b"b", [(b"clocks", w(2))])), node(b"a-b", [(b"clocks", w(3))]), node(b"a0", [(b"clocks", w(4))]),
+                 *[node(b"d%d" % k, [handle(k)]) for k in (1, 2, 3, 4)])
+    yield Case("starts around the slash", slash, [b"/a", b"/a0", b"/a-b"])
+    twice = blob(node(b"a", [(b"clocks", w(1, 2))]), node(b"d1", [handle(1)]), node(b"d2", [handle(2), (b"clocks", w(3, 1))]), node(b"d3", [handle(3)]))
+    yield Case("noted when found", twice, [b"/a"])
     yield Case("a start is no dependency", blob(*f), [b"/f6", b"/f2"])
     yield Case("a cycle", blob(node(b"a", [handle(1), (b"clocks", w(2))]), node(b"b", [handle(2), (b"clocks", w(1))])), [b"/a"])
     yield Case("self reference", blob(node(b"a", [handle(1), (b"clocks", w(1))])), [b"/a"])
@@ -391,7 +399,7 @@ KINDS = [b"a", b"a-b", b"a.b", b"a0", b"b", b"soc", b"soc2", b"cpus", b"cpus", b
 
 def draws():
     rng, k = random.Random(20), 0
-    while k < 40:
+    while k < 30:
         tree = drawn(rng)
         host = blob(*tree[2], props=tree[1])
         paths = deriving.Host(host).path

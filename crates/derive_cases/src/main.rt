@@ -27,6 +27,8 @@ const WORDS: usize = 16400;
 
 const IDS: usize = 66;
 
+const ID_BYTES: usize = IDS * 8;
+
 const LABEL: usize = 256;
 
 const HEAD: usize = 48;
@@ -70,6 +72,7 @@ fn take_host(host: &mut [u8], rest: &mut [u8], front: usize, zeros: usize, behin
     up(up(kept, zeros), n)
 }
 
+// Makes each id the number that stands for it in the script, 0 past its end.
 fn put_ids(ids: &mut [u64], raw: &[u8]) {
     let mut i = 0;
     let mut at = 0;
@@ -86,7 +89,7 @@ fn id_bytes(n: usize) -> usize {
 }
 
 fn take_ids(ids: &mut [u64], n: usize) {
-    let mut raw = [0u8; 528];
+    let mut raw = [0u8; ID_BYTES];
     let m = id_bytes(n);
     take(&mut raw, m);
     put_ids(ids, &raw);
@@ -204,6 +207,7 @@ fn shown(told: &[u8], list: &[u8], guest: &[u8], work: &[u32]) {
     print_digest(b" ", digest_words(work));
 }
 
+// Derives, and prints what came of it.
 fn first(
     host: &[u8],
     configured: &[u8],
