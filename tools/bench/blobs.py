@@ -7,7 +7,7 @@ sys.path.insert(0, os.path.join(os.path.dirname(os.path.abspath(__file__)), ".."
 import board
 from reader_cases import blob, begin, prop, w, END, END_NODE, ROOT
 
-CEILING = 1 << 20
+CEILING, PROGRAM = 1 << 20, 1 << 16
 
 
 class Strings:
@@ -55,14 +55,14 @@ def name_of(i, n):
     return out
 
 
-def many_properties():
+def many_properties(ceiling=CEILING):
     """One node with as many properties as fit. Names share their bytes: of a string of 31 characters each ending is a name too."""
     offsets, strings, seen, i = [], b"", set(), 0
     while True:
         name = name_of(i, 4) + b"-" * 23 + name_of(i, 4)
         base = len(strings)
         fresh = [k for k in range(len(name)) if name[k:] not in seen]
-        if 56 + 8 + 12 * (len(offsets) + len(fresh)) + 8 + len(strings) + 32 > CEILING:
+        if 56 + 8 + 12 * (len(offsets) + len(fresh)) + 8 + len(strings) + 32 > ceiling:
             break
         seen.update(name[k:] for k in fresh)
         offsets += [base + k for k in fresh]
@@ -71,9 +71,9 @@ def many_properties():
     return blob(ROOT + b"".join(prop(o) for o in offsets) + END_NODE + END, strings), len(offsets)
 
 
-def one_name_each():
+def one_name_each(ceiling=CEILING):
     """As many properties as fit, each with a string of its own, alike but in the last bytes."""
-    n = (CEILING - 72) // (12 + 32)
+    n = (ceiling - 72) // (12 + 32)
     names = [b"a-property-with-common-name" + name_of(i, 4) for i in range(n)]
     offsets, at = [], 0
     for name in names:
@@ -101,16 +101,16 @@ def references(n):
     return blob(ROOT + body + END_NODE + END, b"phandle\0iommus\0"), each
 
 
-def cells():
+def cells(ceiling=CEILING):
     """A node with many properties and no `#clock-cells`, and a node with many references that ask it for them."""
-    offsets, strings = [], b"phandle\0clocks\0"
-    for i in range(2000):
+    offsets, strings, half = [], b"phandle\0clocks\0", ceiling // 24
+    for i in range(half // 28 + 1):
         name = name_of(i, 4) + b"-" * 23 + name_of(i, 4)
-        offsets += [len(strings) + k for k in range(28 if i else len(name))]
+        offsets += [len(strings) + k for k in range(28)]
         strings += name + b"\0"
-    many = begin(b"a") + prop(0, w(1)) + b"".join(prop(o) for o in offsets[:40000]) + END_NODE
-    count = (CEILING - 200 - len(many) - len(strings)) // 4
-    return blob(ROOT + many + begin(b"b") + prop(8, w(*[1] * count)) + END_NODE + END_NODE + END, strings), count
+    many = begin(b"a") + prop(0, w(1)) + b"".join(prop(o) for o in offsets[:half]) + END_NODE
+    count = (ceiling - 200 - len(many) - len(strings)) // 4
+    return blob(ROOT + many + begin(b"b") + prop(8, w(*[1] * count)) + END_NODE + END_NODE + END, strings), half, count
 
 
 def asked():
@@ -120,11 +120,14 @@ def asked():
         yield "board-%d" % nodes, board.packed(root), board.request(root, each)
     for n in (500, 2047):
         data, each = references(n)
-        yield "references-%d-of-%d" % (n, each), data, ["c /n0001"]
-    data, count = cells()
-    yield "cells-%d" % count, data, ["c /b"]
-    yield "many-names", many_properties()[0], []
-    yield "own-names", one_name_each()[0], []
+        yield "references-%d-of-%d" % (n, each), data, ["c /"]
+    for ceiling, size in ((PROGRAM, "64k"), (CEILING, "1m")):
+        data, properties, count = cells(ceiling)
+        yield "cells-%d-by-%d-%s" % (count, properties, size), data, ["c /b", "x /a"]
+        data, count = one_name_each(ceiling)
+        yield "own-names-%d-%s" % (count, size), data, []
+        data, count = many_properties(ceiling)
+        yield "many-names-%d-%s" % (count, size), data, []
 
 
 def main():

@@ -219,17 +219,19 @@ def board(nodes):
 
 
 def request(root, each):
-    """`each` configured devices of different kinds, and as many excluded ones outside them; four CPUs."""
-    rng, soc = random.Random(each), next(c for c in root.children if c.name == "soc")
+    """`each` configured devices of different kinds, and as many excluded ones outside them: first four that they reference; four CPUs."""
+    soc = next(c for c in root.children if c.name == "soc")
     kinds = {}
     for d in soc.children:
         kinds.setdefault(d.name.split("@")[0], []).append(d)
     asked, wanted = [], ["i2c", "ethernet", "vop", "spi", "serial", "i2s", "usb", "gpu"]
     while len(asked) < each:
         for kind in wanted:
-            if kinds.get(kind) and len(asked) < each:
+            if kinds[kind] and len(asked) < each:
                 asked.append(kinds[kind].pop(0))
-    left = [kinds[k].pop() for k in ("iommu", "dma-controller", "gpio", "phy")]
-    left += [d for k in wanted for d in kinds.get(k, [])]
+    values = [v for a in asked for n in a.all() for _, value in n.props if isinstance(value, list) for v in value]
+    met = {v.node.name.split("@")[0]: v.node for v in values if isinstance(v, Ref)}
+    left = [met[k] for k in ("iommu", "dma-controller", "gpio", "clock-controller")]
+    left += [d for kind in wanted for d in kinds[kind]]
     left += [c for c in root.children if c.name.startswith(("opp-table", "thermal-zone"))]
     return ["c " + d.path for d in asked] + ["x " + d.path for d in left[:each]] + ["i %d" % (i << 8) for i in range(4)]

@@ -1,6 +1,6 @@
 /* derive.c: times the derivation, and the given Rust beside it where GIVEN says that it is linked, on the same host in the same run.
- * derive RUNS HOST REQUEST...: for each pair the medians of RUNS runs, in microseconds. The derivation clears its work space inside
- * the timing, before and after. "Until 42" has a path that names no node added to the request, and so ends when the configured paths
+ * derive RUNS HOST REQUEST...: for each pair the medians of RUNS runs, in microseconds; with RUNS 1 the whole derivation only. The derivation clears its work space inside
+ * the timing, before and after. "Until 42" has a path that names no node as the last of the configured ones, and so ends when these
  * are looked up; "until 45" lends no room for the list, and so ends when both outputs are measured. A request is lines `c PATH`, `x PATH` and `i NUMBER`, as the command program takes them. */
 #include <stdint.h>
 #include <stdio.h>
@@ -58,6 +58,7 @@ static double median(double *v, int runs)
 static int request(const char *file)
 {
 	char line[2048];
+	size_t last = 0;
 	FILE *f = fopen(file, "r");
 	if (!f)
 		return 0;
@@ -66,6 +67,7 @@ static int request(const char *file)
 		line[strcspn(line, "\n")] = 0;
 		size_t len = strlen(line + 2) + 1;
 		if (line[0] == 'c') {
+			last = asked.configured_len;
 			memcpy(asked.configured + asked.configured_len, line + 2, len);
 			asked.configured_len += len;
 			asked.paths[0]++;
@@ -78,7 +80,8 @@ static int request(const char *file)
 	}
 	fclose(f);
 	unknown = asked;
-	memcpy(unknown.configured + unknown.configured_len, "/unknown", 9);
+	unknown.configured_len = last;
+	memcpy(unknown.configured + last, "/unknown", 9);
 	unknown.configured_len += 9;
 	return 1;
 }
@@ -91,28 +94,31 @@ static void pair(int runs, const char *name, size_t len)
 	double *t[10];
 	for (int i = 0; i < 10; i++)
 		t[i] = malloc(runs * sizeof **t);
-	uint64_t nodes = dhaureshin_read(host, len, work, WORDS);
-	uint64_t listed = dhaureshin_list(host, len, LENT(asked), work, WORDS, list, ROOM, guest, ROOM), copied = 0;
+	uint64_t nodes = dhaureshin_read(host, len, work, WORDS), copied = 0, listed = 0;
+	if (runs > 1)
+		listed = dhaureshin_list(host, len, LENT(asked), work, WORDS, list, ROOM, guest, ROOM);
 	int alike = 1;
 	for (int i = 0; i < runs; i++) {
 		double a = now();
-		dhaureshin_read(host, len, work, WORDS);
+		if (runs > 1)
+			dhaureshin_derive(host, len, LENT(nothing), work, WORDS, list, ROOM, guest, ROOM);
 		double b = now();
-		dhaureshin_derive(host, len, LENT(nothing), work, WORDS, list, ROOM, guest, ROOM);
-		double c = now();
-		copied = dhaureshin_derive(host, len, LENT(asked), work, WORDS, list, ROOM, guest, ROOM);
-		double d = now();
-		t[0][i] = b - a;
-		t[1][i] = c - b;
-		t[2][i] = d - c;
 		/* refused with 42, and with 45: what stands before these */
-		a = now();
-		dhaureshin_derive(host, len, LENT(unknown), work, WORDS, list, ROOM, guest, ROOM);
-		b = now();
-		dhaureshin_derive(host, len, LENT(asked), work, WORDS, list, 0, guest, ROOM);
-		c = now();
-		t[8][i] = b - a;
-		t[9][i] = c - b;
+		if (runs > 1)
+			dhaureshin_derive(host, len, LENT(unknown), work, WORDS, list, ROOM, guest, ROOM);
+		double c = now();
+		if (runs > 1)
+			dhaureshin_derive(host, len, LENT(asked), work, WORDS, list, 0, guest, ROOM);
+		double d = now();
+		dhaureshin_read(host, len, work, WORDS);
+		double e = now();
+		copied = dhaureshin_derive(host, len, LENT(asked), work, WORDS, list, ROOM, guest, ROOM);
+		double f = now();
+		t[0][i] = e - d;
+		t[1][i] = b - a;
+		t[2][i] = f - e;
+		t[8][i] = c - b;
+		t[9][i] = d - c;
 #ifdef GIVEN
 		double took[4];
 		size_t their_list, their_guest = given_derive(host, len, LENT(asked), theirs, sizeof theirs, &their_list, took);
@@ -126,14 +132,18 @@ static void pair(int runs, const char *name, size_t len)
 	printf("%s: %zu bytes, %llu nodes, %d configured, %d excluded, list %llu bytes, guest %llu bytes\n", name, len,
 	       (unsigned long long)nodes, asked.paths[0], asked.paths[1], (unsigned long long)listed, (unsigned long long)copied);
 	double whole = median(t[2], runs);
-	printf("  ours: read %.1f us, until 42 %.1f us, until 45 %.1f us, whole %.1f us; with nothing asked %.1f us\n", median(t[0], runs),
-	       median(t[8], runs), median(t[9], runs), whole, median(t[1], runs));
+	if (runs == 1)
+		printf("  ours: read %.1f us, whole %.1f us\n", t[0][0], whole);
+	else
+		printf("  ours: read %.1f us, until 42 %.1f us, until 45 %.1f us, whole %.1f us; with nothing asked %.1f us\n", median(t[0], runs),
+		       median(t[8], runs), median(t[9], runs), whole, median(t[1], runs));
 #ifdef GIVEN
 	double both = median(t[7], runs);
 	printf("  the Rust: parse %.1f us, find_all_passthrough_devices %.1f us, crate_guest_fdt %.1f us; of both, copies of all nodes "
 	       "%.1f us\n",
 	       median(t[3], runs), median(t[4], runs), median(t[5], runs), median(t[6], runs));
-	printf("  ratio to both without the parse %.4f; list and guest are %s\n", whole / both, alike ? "the same" : "NOT the same");
+	printf("  ratio to both without the parse %.4f; of the least times, %.1f and %.1f us, %.4f; list and guest are %s\n", whole / both,
+	       t[2][0], t[7][0], t[2][0] / t[7][0], alike ? "the same" : "NOT the same");
 #else
 	(void)alike;
 	(void)theirs;
