@@ -1,7 +1,8 @@
 /* derive.c: times the derivation, and the given Rust beside it where GIVEN says that it is linked, on the same host in the same run.
- * derive RUNS HOST REQUEST...: for each pair the medians of RUNS runs, in microseconds; with RUNS 1 the whole derivation only. The derivation clears its work space inside
- * the timing, before and after. "Until 42" has a path that names no node as the last of the configured ones, and so ends when these
- * are looked up; "until 45" lends no room for the list, and so ends when both outputs are measured. A request is lines `c PATH`, `x PATH` and `i NUMBER`, as the command program takes them. */
+ * derive RUNS HOST REQUEST...: for each pair the medians of RUNS runs, in microseconds of processor time; with RUNS 1 the whole
+ * derivation only. The derivation clears its work space inside the timing, before and after. "Until 42" has a path that names no node
+ * as the last of the configured ones, and so ends when these are looked up; "until 45" lends no room for the list, and so ends when
+ * both outputs are measured. A request is lines `c PATH`, `x PATH` and `i NUMBER`, as the command program takes them. */
 #include <stdint.h>
 #include <stdio.h>
 #include <stdlib.h>
@@ -36,10 +37,11 @@ static uint32_t work[WORDS];
 static uint8_t host[ROOM] __attribute__((aligned(8))), list[ROOM], guest[ROOM], theirs[2 * ROOM];
 static struct request asked, nothing, unknown;
 
-static double now(void)
+/* processor time, for both sides, so that what else runs on the machine counts less */
+double bench_now(void)
 {
 	struct timespec t;
-	clock_gettime(CLOCK_MONOTONIC, &t);
+	clock_gettime(CLOCK_PROCESS_CPUTIME_ID, &t);
 	return t.tv_sec * 1e6 + t.tv_nsec / 1e3;
 }
 
@@ -99,21 +101,21 @@ static void pair(int runs, const char *name, size_t len)
 		listed = dhaureshin_list(host, len, LENT(asked), work, WORDS, list, ROOM, guest, ROOM);
 	int alike = 1;
 	for (int i = 0; i < runs; i++) {
-		double a = now();
+		double a = bench_now();
 		if (runs > 1)
 			dhaureshin_derive(host, len, LENT(nothing), work, WORDS, list, ROOM, guest, ROOM);
-		double b = now();
+		double b = bench_now();
 		/* refused with 42, and with 45: what stands before these */
 		if (runs > 1)
 			dhaureshin_derive(host, len, LENT(unknown), work, WORDS, list, ROOM, guest, ROOM);
-		double c = now();
+		double c = bench_now();
 		if (runs > 1)
 			dhaureshin_derive(host, len, LENT(asked), work, WORDS, list, 0, guest, ROOM);
-		double d = now();
+		double d = bench_now();
 		dhaureshin_read(host, len, work, WORDS);
-		double e = now();
+		double e = bench_now();
 		copied = dhaureshin_derive(host, len, LENT(asked), work, WORDS, list, ROOM, guest, ROOM);
-		double f = now();
+		double f = bench_now();
 		t[0][i] = e - d;
 		t[1][i] = b - a;
 		t[2][i] = f - e;
