@@ -127,6 +127,8 @@ static void pair(int runs, const char *name, size_t len)
 		for (int k = 0; k < 4; k++)
 			t[3 + k][i] = took[k];
 		t[7][i] = took[1] + took[2];
+		if (runs == 1)
+			listed = their_list;
 		alike = alike && their_list == listed && their_guest == copied && !memcmp(theirs, list, listed) &&
 			!memcmp(theirs + listed, guest, copied);
 #endif
