@@ -15,7 +15,8 @@ pub struct Answer {
     pub guest: Vec<u8>,
 }
 
-const REFERENCES: [&str; 23] = [
+// The names that the source lists; the other reference names are told by their ending or by the part `cells`.
+pub const REFERENCES: [&str; 23] = [
     "clocks",
     "power-domains",
     "phys",

@@ -1,36 +1,14 @@
 // The table of references: which properties hold them, and which cells property they ask for. The given functions are private, so
 // the given list is asked: a node is listed or it is not.
 use crate::ask::{Cases, Found, Question};
-use crate::deriving::Request;
+use crate::deriving::{REFERENCES, Request};
 use crate::drawing::Draw;
 use crate::guests::given_list;
 use crate::reading::CELLS;
 use crate::trees::{self, Layout, Tree};
 
-const KNOWN: [&str; 34] = [
-    "clocks",
-    "power-domains",
-    "phys",
-    "resets",
-    "dmas",
-    "thermal-sensors",
-    "mboxes",
-    "assigned-clocks",
-    "interrupt-parent",
-    "phy-handle",
-    "msi-parent",
-    "memory-region",
-    "syscon",
-    "regmap",
-    "iommus",
-    "interconnects",
-    "nvmem-cells",
-    "sound-dai",
-    "pinctrl-0",
-    "pinctrl-1",
-    "pinctrl-2",
-    "pinctrl-3",
-    "pinctrl-4",
+// Names beside the listed ones: two that are references by their form, one of each ending, and names that are none.
+const OTHERS: [&str; 11] = [
     "gpios",
     "x-supply",
     "x-gpios",
@@ -43,6 +21,11 @@ const KNOWN: [&str; 34] = [
     "phandle",
     "reg",
 ];
+
+// The names that are asked about.
+fn known() -> impl Iterator<Item = &'static str> {
+    REFERENCES.into_iter().chain(OTHERS)
+}
 
 fn listed(name: &[u8], cells: &str) -> Vec<String> {
     let mut a = Tree::named("a");
@@ -93,7 +76,7 @@ fn near(name: &str) -> Vec<String> {
 
 // Every name of the table and all that are one change away; each with every cells property, and with those near to it.
 pub fn compare(cases: &mut Cases, found: &mut Vec<Found>, d: &mut Draw) {
-    for name in KNOWN {
+    for name in known() {
         for n in near(name) {
             ask(cases, &n, "");
         }
@@ -115,13 +98,13 @@ pub fn compare(cases: &mut Cases, found: &mut Vec<Found>, d: &mut Draw) {
 
 // The names of the stored sample: each with the cells property that it could ask for, and one that it could not.
 pub fn sample(cases: &mut Cases, found: &mut Vec<Found>) {
-    for name in KNOWN {
+    for name in known() {
         for cells in ["#clock-cells", "#gpio-cells", "#iommu-cells"] {
             ask(cases, name, cells);
         }
     }
     for (i, cells) in CELLS.iter().enumerate() {
-        ask(cases, KNOWN[i], cells);
+        ask(cases, REFERENCES[i], cells);
     }
     for name in
         ["-supply", "supply", "-gpio", "gpio", "-gpios", "cells", "#cells", "clock", "pinctrl-5", "clocksa", "aclocks"]

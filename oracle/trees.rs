@@ -1,6 +1,6 @@
 // Trees and requests drawn from a seed, and blobs of them: names and values are drawn from few, so that what the rules tell apart
 // comes up often (`/soc2` beside `/soc`, `a.b` beside `a`, a value that is some node's phandle).
-use crate::deriving::Request;
+use crate::deriving::{REFERENCES, Request};
 use crate::drawing::Draw;
 use crate::reading::CELLS;
 
@@ -142,30 +142,8 @@ const NAMES: [&str; 26] = [
 const SPECIAL: [&str; 8] = ["memory", "memory@0", "memory-controller", "cpus", "cpus2", "cpusets", "cpu", "cpu@0"];
 const CPUS: [&str; 9] = ["cpu@0", "cpu@1", "cpu@100", "cpu", "cpu-map", "cpux@0", "idle-states", "l2-cache", "cpu@0,0"];
 
-const REFERENCES: [&str; 40] = [
-    "clocks",
-    "power-domains",
-    "phys",
-    "resets",
-    "dmas",
-    "thermal-sensors",
-    "mboxes",
-    "assigned-clocks",
-    "interrupt-parent",
-    "phy-handle",
-    "msi-parent",
-    "memory-region",
-    "syscon",
-    "regmap",
-    "iommus",
-    "interconnects",
-    "nvmem-cells",
-    "sound-dai",
-    "pinctrl-0",
-    "pinctrl-1",
-    "pinctrl-2",
-    "pinctrl-3",
-    "pinctrl-4",
+// Names beside the listed ones that are references too.
+const OTHERS: [&str; 17] = [
     "gpios",
     "vcc-supply",
     "-supply",
@@ -212,7 +190,8 @@ impl Drawn<'_> {
             let name = if self.d.one_in(5) {
                 *self.d.pick(&["compatible", "reg", "status", "p"])
             } else {
-                *self.d.pick(&REFERENCES)
+                let i = self.d.below(REFERENCES.len() + OTHERS.len());
+                if i < REFERENCES.len() { REFERENCES[i] } else { OTHERS[i - REFERENCES.len()] }
             };
             let value = self.value();
             put(t, name, value);

@@ -14,8 +14,8 @@ use Rattle.rules.specs.Tree.{Frame, frame}
 use Rattle.rules.specs.Lists.{oneOf}
 use Rattle.rules.specs.Outcome.{gives, refuses, passes}
 use Rattle.rules.specs.Derivation.{Given, given, nodeAt, repeats, configuredFrom, nodesNamed}
-use Rattle.rules.specs.Laws.Formed.{named-mem}
-use Rattle.rules.specs.Laws.Given.{givenAt, given-all}
+use Rattle.rules.specs.Laws.Formed.{named-step, named-skip, named-mem}
+use Rattle.rules.specs.Laws.Given.{givenAt, given-all, Told, told-none, told-more}
 use Rattle.rules.specs.Laws.Program.{Laying, laying-none, laying-more, laying-bytes, laying-count}
 use Rattle.rules.specs.Laws.Tabled.{tree-length}
 use Rattle.paths.specs.Trees.{treeOf}
@@ -24,7 +24,7 @@ use Rattle.references.specs.Table.{found}
 use Rattle.given.specs.declared.Entry.{Entry}
 use Rattle.given.specs.declared.Entry.the-variants.{Path, Done}
 use Rattle.given.specs.Entries.{entryAt, path-tells, done-tells}
-use Rattle.asked.specs.Nodes.{namedFrom, configuredNodes, configuredOutcome, named-step, named-skip, from-none, from-again, from-new, Told, told-none, told-more}
+use Rattle.asked.specs.Nodes.{namedFrom, configuredNodes, configuredOutcome, from-none, from-again, from-new}
 
 -- a node that a path names is one of the first `count`
 pub at-small : (place : ℕ) (structure strings : Bytes) (ws : List ℕ) (count : ℕ) (p : Bytes) (i : ℕ) → nodeAt (frame (treeOf place structure strings ws count)) p ≡ some i → i < count

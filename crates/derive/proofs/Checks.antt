@@ -1,58 +1,20 @@
 -- A request judged part by part.
 use mathlib.Core.Path.{_≡_, refl, sym, ap, _∙_}
 use mathlib.Core.List.{List, [], _∷_}
-use Prim.Native.Nat.{ℕ, suc, _+_, _≤_, _<_}
+use Prim.Native.Nat.{ℕ}
 use native.Mathlib.Omega.{arith}
 use lib.ListN.{length}
-use Rattle.rules.specs.Ceilings.{entryCeiling}
 use Rattle.rules.specs.Octets.{lay}
-use Rattle.rules.specs.Outcome.{Outcome, Verdict, passes, gives, refuses, _then_}
+use Rattle.rules.specs.Outcome.{passes, gives, refuses, _then_}
 use Rattle.rules.specs.Tree.{Tree, frame, numbers}
-use Rattle.rules.specs.Derivation.{Given, Request, given, pathAtFault, pathsJudged, listsJudged, configuredFrom, configuredJudged, cpusFrom, cpusJudged, idsFrom, requestJudged, asked}
-use Rattle.rules.specs.Laws.Tests.{by-test}
-use Rattle.rules.specs.Laws.Verdicts.{gives-refuses, then-passes}
-use Rattle.rules.specs.Laws.Given.{paths-fault, paths-good, fault-index}
-use Rattle.rules.specs.Laws.Listed.{configured-granted}
+use Rattle.rules.specs.Derivation.{Request, given, listsJudged, configuredFrom, configuredJudged, cpusFrom, cpusJudged, idsFrom, requestJudged, asked}
+use Rattle.rules.specs.Laws.Verdicts.{gives-refuses, then-then, then-refuses, then-gives}
+use Rattle.rules.specs.Laws.Listed.{lists-granted, configured-granted}
 use Rattle.rules.specs.Laws.Octets.{length-lay}
 use Rattle.asked.specs.Nodes.{configuredNodes, configuredOutcome, configured-whole}
 use Rattle.derive.specs.declared.judged.Checked.{Checked}
 use Rattle.derive.specs.Answers.{checked}
 use Rattle.derive.specs.Answered.{Checks}
-
--- ---- verdicts one after the other
-
-pub then-then : {A : Type 0} (v w : Verdict) (o : Outcome A) → ((v then w) then o) ≡ (v then (w then o))
-then-then (gives u) w o = refl
-then-then (refuses number place) w o = refl
-
-pub then-refuses : {A : Type 0} (v : Verdict) (a : A) (number place : ℕ) → _≡_ {A = Outcome A} (refuses number place) (v then gives a) → v ≡ refuses number place
-then-refuses (gives u) a number place e = gives-refuses a number place e
-then-refuses (refuses n p) a number place e = let f : n ≡ number = cc in let g : p ≡ place = cc in rw (f, g)
-
-pub then-gives : (v : Verdict) (n m : ℕ) → gives n ≡ (v then gives m) → (v ≡ passes) × (n ≡ m)
-then-gives (gives u) n m e = (refl, cc)
-then-gives (refuses number place) n m e = gives-refuses n number place (sym e)
-
--- ---- 41: a list that passes has no more entries than the ceiling
-
-paths-few : (index : ℕ) (gs : List Given) → index ≤ entryCeiling → pathsJudged index gs ≡ passes → index + length gs ≤ entryCeiling
-paths-few index [] h e = omega arith
-paths-few index (g ∷ gs) h e = by-test (pathAtFault index g)
-    (λ f. gives-refuses tt 41 (g .offset) (sym (paths-fault index g gs f) ∙ e))
-    (λ f. let k : index < entryCeiling = fault-index index g f in
-    let r : suc index + length gs ≤ entryCeiling = paths-few (suc index) gs (omega arith) (sym (paths-good index g gs f) ∙ e) in
-    omega arith)
-
-pub lists-few : (q : Request) → listsJudged q ≡ passes → (length (given (q .configured)) ≤ entryCeiling) × (length (given (q .excluded)) ≤ entryCeiling)
-unfolding listsJudged
-lists-few q e =
-    let a = then-passes (pathsJudged 0 (given (q .configured))) _ tt e in
-    let b = then-passes (pathsJudged 0 (given (q .excluded))) _ tt (a .1) in
-    (omega (arith, paths-few 0 (given (q .configured)) (omega arith) (a .0)), omega (arith, paths-few 0 (given (q .excluded)) (omega arith) (b .0)))
-
-pub lists-granted : (t : Tree) (q : Request) → requestJudged t q ≡ passes → listsJudged q ≡ passes
-unfolding requestJudged
-lists-granted t q e = then-passes (listsJudged q) (configuredJudged (frame t) q then cpusJudged t (q .ids) then idsFrom t 0 (q .ids)) tt e .0
 
 -- ---- 43 and 44
 

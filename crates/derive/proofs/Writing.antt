@@ -1,14 +1,14 @@
 -- Both outputs, measured and written.
 use mathlib.Core.Path.{_≡_, refl, sym, ap, ap₂, _∙_}
-use mathlib.Core.Bool.{Bool, true, false}
+use mathlib.Core.Bool.{Bool, true, false, _&&_}
 use mathlib.Core.List.{List, [], map}
 use Prim.Native.Nat.{ℕ, zero, suc, _+_, _≤_, _<_, min}
 use native.Mathlib.Omega.{arith}
 use native.Mathlib.Nat.{zero-add}
-use lib.Dec.{eqb}
+use lib.Dec.{eqb, leb}
 use lib.ListN.{length, getD, take, drop, length-take, length-drop, length-map}
 use lib.Seq.{getD-take, getD-drop, ext-getD}
-use borrow.Author.Tests.{lt-ltb, le-ltb}
+use borrow.Author.Tests.{lt-ltb, le-ltb, lt-leb, le-leb, leb-true}
 use Rattle.rules.specs.Ceilings.{blobCeiling, nodeCeiling, workWords}
 use Rattle.rules.specs.Octets.{Bytes, if_then_else_, put, lay}
 use Rattle.rules.specs.Outcome.{Outcome, gives, refuses, _then_}
@@ -22,6 +22,7 @@ use Rattle.rules.specs.Copy.{Asked as AskedFor}
 use Rattle.rules.specs.Written.{writeEvents, blobOf}
 use Rattle.rules.specs.Derivation.{Derived, roomJudged}
 use Rattle.rules.specs.Space.{marksAt, listAt, stackAt}
+use Rattle.rules.specs.Laws.Tests.{and-true}
 use Rattle.rules.specs.Laws.Octets.{lay-put}
 use Rattle.rules.specs.Laws.Copy.{copied-root, copied-parent}
 use Rattle.rules.specs.Laws.Listing.{listed-small}
@@ -53,6 +54,21 @@ module _ (L G lr gr : ℕ) where
   pub both-fit : L ≤ lr → (r : ℕ) → r ≡ min gr blobCeiling → G ≤ r → (a : Derived) → gives a ≡ (roomJudged L G lr gr then gives a)
   unfolding roomJudged
   both-fit h r e k a = rw (le-ltb lr L h, ← e, le-ltb r G k)
+
+-- ---- what is granted
+
+module _ (lent listed most copied : ℕ) (r : Bool) (e : r ≡ (leb listed lent && leb copied most)) where
+  pub no-list : lent < listed → r ≡ false
+  no-list h = e ∙ rw (lt-leb listed lent h)
+
+  pub no-guest : listed ≤ lent → most < copied → r ≡ false
+  no-guest h k = e ∙ rw (le-leb listed lent h, lt-leb copied most k)
+
+  pub both-granted : listed ≤ lent → copied ≤ most → r ≡ true
+  both-granted h k = e ∙ rw (le-leb listed lent h, le-leb copied most k)
+
+  pub granted-guest : r ≡ true → copied ≤ most
+  granted-guest h = leb-true copied most (and-true (leb listed lent) (leb copied most) (sym e ∙ h) .1)
 
 -- ---- from the marks on
 
@@ -150,26 +166,26 @@ module _ (b : Block) (count : ℕ) (q : AskedFor) (ws : List ℕ) (a : Asked b w
       measured : (lr gr : ℕ) → (roomJudged L G lr gr then gives (record { paths = n; listLength = L; guestLength = G })) ≡ roomy t es q lr gr
       measured lr gr = rw (← length-list, ← length-copy, ← length-paths)
 
-      refused : (number place : ℕ) → refuses number place ≡ roomy t es q (length list) (length guest) → (r : Answer) → meaning r ≡ refuses number place → Writes b count q ws us list list guest guest r
-      refused number place e r f = record {
+      refused : (number place : ℕ) → refuses number place ≡ roomy t es q (length list) (length guest) → (guest' : Bytes) → guest' ≡ guest → (r : Answer) → meaning r ≡ refuses number place → Writes b count q ws us list list guest guest' r
+      refused number place e guest' o r f = record {
         answer = f ∙ e;
         listed = rw (← e);
-        copied = rw (← e);
+        copied = o ∙ rw (← e);
         size = rest-is .0;
         rest = rest-is .1;
       }
 
-      pub writes-45 : length list < L → (r : Answer) → meaning r ≡ refuses 45 L → Writes b count q ws us list list guest guest r
-      writes-45 k r f = refused 45 L (list-short L G (length list) (length guest) k _ ∙ measured (length list) (length guest)) r f
+      pub writes-45 : length list < L → (guest' : Bytes) → guest' ≡ guest → (r : Answer) → meaning r ≡ refuses 45 L → Writes b count q ws us list list guest guest' r
+      writes-45 k guest' o r f = refused 45 L (list-short L G (length list) (length guest) k _ ∙ measured (length list) (length guest)) guest' o r f
 
-      pub writes-46 : L ≤ length list → (room : ℕ) → room ≡ min (length guest) blobCeiling → room < G → (r : Answer) → meaning r ≡ refuses 46 G → Writes b count q ws us list list guest guest r
-      writes-46 j room e k r f = refused 46 G (guest-short L G (length list) (length guest) j room e k _ ∙ measured (length list) (length guest)) r f
+      pub writes-46 : L ≤ length list → (room : ℕ) → room ≡ min (length guest) blobCeiling → room < G → (guest' : Bytes) → guest' ≡ guest → (r : Answer) → meaning r ≡ refuses 46 G → Writes b count q ws us list list guest guest' r
+      writes-46 j room e k guest' o r f = refused 46 G (guest-short L G (length list) (length guest) j room e k _ ∙ measured (length list) (length guest)) guest' o r f
+
+      pub guest-room : (room : ℕ) → room ≡ min (length guest) blobCeiling → G ≤ room → 56 + size .structure + 4 + size .strings ≤ length guest
+      guest-room room e k = omega (arith, h, e, k)
 
       -- and where both fit
       module _ (j : L ≤ length list) (room : ℕ) (e : room ≡ min (length guest) blobCeiling) (k : G ≤ room) where
-        pub guest-room : 56 + size .structure + 4 + size .strings ≤ length guest
-        guest-room = omega (arith, h, e, k)
-
         pub writes-both : (list' guest' : Bytes) → list' ≡ lay list 0 (spelt.listBytes (treeIn b us count) us n) → guest' ≡ put guest 0 (blobOf [] 0 (sieved (b .place) (b .structure) (b .strings) us))
             → (r : Answer) → meaning r ≡ gives (record { paths = n; listLength = L; guestLength = G }) → Writes b count q ws us list list' guest guest' r
         writes-both list' guest' p o r f =

@@ -6,13 +6,10 @@ use lib.ListN.{length, drop}
 use Rattle.rules.specs.Ceilings.{workWords}
 use Rattle.rules.specs.Octets.{Bytes, put, lay}
 use Rattle.rules.specs.Outcome.{Outcome, passes, gives, settled, _then_}
-use Rattle.rules.specs.Blob.{blockIn}
 use Rattle.rules.specs.Tree.{Tree, frame}
-use Rattle.rules.specs.Reader.{treeRead, blobJudged}
+use Rattle.rules.specs.Reader.{treeRead}
 use Rattle.rules.specs.References.{edition1}
 use Rattle.rules.specs.Derivation.{Request, Derived, asked, requestJudged, roomJudged, listedPaths, listOf, guestOf}
-use Rattle.rules.specs.Laws.Kept.{Kept}
-use Rattle.rules.specs.Laws.Tabled.{treeIn}
 use Rattle.derive.specs.declared.Answer.{Answer}
 use Rattle.derive.specs.declared.judged.Checked.{Checked}
 use Rattle.derive.specs.Answers.{meaning, checked}
@@ -22,12 +19,6 @@ pub record Checks (t : Tree) (q : Request) (old new : List ℕ) (r : Checked) : 
   pub answer : checked r ≡ (requestJudged t q then gives (length (asked (frame t) q .conf)))
   pub nodes : requestJudged t q ≡ passes → new ≡ lay old 0 (asked (frame t) q .conf)
   pub size : length new ≡ length old
-
--- the host is accepted, and its table stands in the work space
-pub record HostRead (host : Bytes) (ws : List ℕ) (count : ℕ) : Type 0 where
-  pub accepted : blobJudged host ≡ passes
-  pub kept : Kept (blockIn host) ws count
-  pub tree : treeIn (blockIn host) ws count ≡ treeRead host
 
 -- 41 to 46, or the answer
 abbrev pub answered : (host : Bytes) → Request → (listRoom guestRoom : ℕ) → Outcome Derived

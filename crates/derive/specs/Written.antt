@@ -1,6 +1,7 @@
 -- Both outputs, of a tree and what is asked of it as nodes.
 use mathlib.Core.Path.{_≡_}
-use mathlib.Core.List.{List, map}
+use mathlib.Core.Bool.{Bool, true, false}
+use mathlib.Core.List.{List, [], map}
 use Prim.Native.Nat.{ℕ}
 use lib.ListN.{length, drop}
 use Rattle.rules.specs.Ceilings.{workWords}
@@ -12,8 +13,10 @@ use Rattle.rules.specs.Tree.{Tree, path, nodesOf}
 use Rattle.rules.specs.References.{edition1}
 use Rattle.rules.specs.Listing.{listed, pathsBytes}
 use Rattle.rules.specs.Copy.{Asked, guestBytes}
+use Rattle.rules.specs.Written.{blobOf}
 use Rattle.rules.specs.Derivation.{Derived, roomJudged}
 use Rattle.rules.specs.Laws.Tabled.{treeIn}
+use Rattle.guest.specs.Walked.{sieved, Ready}
 use Rattle.derive.specs.declared.Answer.{Answer}
 use Rattle.derive.specs.Answers.{meaning}
 
@@ -36,6 +39,11 @@ abbrev pub roomy : Tree → List Event → Asked → (listRoom guestRoom : ℕ) 
 roomy t es q listRoom guestRoom =
     roomJudged (length (listBytes t q)) (length (copyBytes t es q)) listRoom guestRoom
     then gives (record { paths = length (pathsOf t q); listLength = length (listBytes t q); guestLength = length (copyBytes t es q) })
+
+-- what becomes of a guest: the copy of the nodes that are marked where it is granted, and else it stays
+pub record Copies (structure strings : Bytes) (ws : List ℕ) (both : Bool) (guest guest' : Bytes) : Type 0 where
+  pub kept : both ≡ false → guest' ≡ guest
+  pub written : both ≡ true → (place : ℕ) → Ready place structure strings ws → guest' ≡ put guest 0 (blobOf [] 0 (sieved place structure strings ws))
 
 pub record Writes (b : Block) (count : ℕ) (q : Asked) (ws vs : List ℕ) (list list' guest guest' : Bytes) (r : Answer) : Type 0 where
   pub answer : meaning r ≡ roomy (treeIn b ws count) (eventsIn b) q (length list) (length guest)

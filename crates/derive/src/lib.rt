@@ -13,9 +13,10 @@ ghost use mathlib.Core.Path.{_≡_};
 ghost use lib.ListN.{length};
 ghost use Rattle.rules.specs.References.{edition1};
 ghost use Rattle.rules.specs.Derivation.{Derived, derive, deriveList, deriveGuest, deriveWork};
+ghost use Rattle.rules.specs.Laws.Host.{HostRead};
 ghost use Rattle.reader.specs.Answers.{refused as read};
 ghost use Rattle.derive.specs.Answers.{meaning, refused};
-ghost use Rattle.derive.specs.Answered.{HostRead, Accepts};
+ghost use Rattle.derive.specs.Answered.{Accepts};
 
 // Why nothing is derived, in the order in which it is judged.
 pub enum Refusal {

@@ -23,7 +23,7 @@ use Rattle.rules.specs.Laws.Tabled.{treeIn}
 use Rattle.rules.specs.Laws.Kept.{tree-alike, list-behind, stack-behind, names-behind, names-inside}
 use Rattle.listing.specs.State.{listIn, stackIn, Apart, Marked, Gains}
 use Rattle.listing.specs.Given.{belowIn, Gathers}
-use Rattle.listing.proofs.Fresh.{fresh-none, fresh-append, gather-turn}
+use Rattle.listing.proofs.Fresh.{fresh-none, fresh-append, gather-none, gather-turn}
 use Rattle.listing.proofs.Parts.{apart-refl, apart-trans, apart-mark, stack-mark, stack-length}
 
 pub gains-refl : (count : ℕ) (ws : List ℕ) (n : ℕ) (ts : List ℕ) → Marked ws count n → Gains count ws n ts ws n ts
@@ -39,7 +39,7 @@ gains-trans a b = record {
 }
 
 module _ (count : ℕ) (ws : List ℕ) (n : ℕ) (ts vs : List ℕ) (m : ℕ) (a : Gains count ws n ts vs m []) where
-  pub gains-list : listIn vs m ≡ listIn ws n ++ fresh (listIn ws n) ts
+  gains-list : listIn vs m ≡ listIn ws n ++ fresh (listIn ws n) ts
   gains-list = sym (append-nil (listIn vs m)) ∙ ap (λ (l : List ℕ). listIn vs m ++ l) (sym (fresh-none (listIn vs m))) ∙ a .list
 
   pub gains-more : (us : List ℕ) → Gains count ws n (ts ++ us) vs m us
@@ -52,9 +52,14 @@ module _ (count : ℕ) (ws : List ℕ) (n : ℕ) (ts vs : List ℕ) (m : ℕ) (a
     stack = a .stack;
   }
 
+-- a node, and then others
+pub gains-with : (count : ℕ) (ws : List ℕ) (n x : ℕ) (vs : List ℕ) (m : ℕ) (ts us : List ℕ) (p : ℕ)
+    → Gains count ws n (x ∷ []) vs m [] → Gains count vs m ts us p [] → Gains count ws n (x ∷ ts) us p []
+gains-with count ws n x vs m ts us p a b = gains-trans (gains-more count ws n (x ∷ []) vs m a ts) b
+
 -- ---- the marks cleared
 
-no-list : (ws : List ℕ) → listIn ws 0 ≡ []
+pub no-list : (ws : List ℕ) → listIn ws 0 ≡ []
 unfolding listIn
 no-list ws = refl
 
@@ -99,25 +104,6 @@ cleared count ws vs i few room h c = record {
   };
   list = rw (no-list vs, no-list ws);
   stack = c .stack;
-}
-
--- ---- one after the other
-
-module _ (count : ℕ) (ws : List ℕ) (n : ℕ) (all vs : List ℕ) (m : ℕ) (ts : List ℕ) (i : ℕ) (a : Gains count ws n all vs m (drop i ts)) where
-  pub gains-each : i < length ts → (us : List ℕ) (p : ℕ) → Gains count vs m (getD ts i 0 ∷ []) us p [] → Gains count ws n all us p (drop (i + 1) ts)
-  gains-each h us p d =
-      gains-trans a (rw (drop-cons ts i 0 h, ← add-one i) (gains-more count vs m (getD ts i 0 ∷ []) us p d (drop (i + 1) ts)))
-
-  pub gains-all : length ts ≤ i → Gains count ws n all vs m []
-  gains-all h = rw (drop-of-length-le ts {i = i} h) at a
-
--- from marks that have just been cleared
-pub gains-anew : (count : ℕ) (ws vs us : List ℕ) (m : ℕ) (ts : List ℕ) → Gains count ws 0 [] vs 0 [] → Gains count vs 0 ts us m [] → Gains count ws 0 ts us m []
-gains-anew count ws vs us m ts a b = record {
-  apart = apart-trans (a .apart) (b .apart);
-  marked = b .marked;
-  list = b .list ∙ ap (λ (l : List ℕ). l ++ fresh l ts) (no-list vs ∙ sym (no-list ws));
-  stack = λ s. b .stack s ∙ a .stack s;
 }
 
 -- ---- those below a node
@@ -172,7 +158,7 @@ module _ (count : ℕ) (ws : List ℕ) (n s p : ℕ) (low : s ≤ nodeCeiling) (
     unfolding keep
     below-all h = rw (drop-of-length-le (stackIn ws s) {i = k} (omega (arith, stack-length ws room s low))) at a
 
--- ---- those below each
+-- ---- each with those below it
 
 pub gathers-refl : (count : ℕ) (ws : List ℕ) (n : ℕ) (of : ℕ → List ℕ) (cs : List ℕ) → Marked ws count n → Gathers count ws n of cs ws n cs
 gathers-refl count ws n of cs m = record { apart = apart-refl ws; marked = m; list = refl; stack = λ s. refl }
@@ -200,3 +186,8 @@ module _ (count : ℕ) (ws : List ℕ) (n : ℕ) (of : ℕ → List ℕ) (all vs
 
   pub gathers-all : length cs ≤ i → Gathers count ws n of all vs m []
   gathers-all h = rw (drop-of-length-le cs {i = i} h) at a
+
+pub gathers-list : (count : ℕ) (ws : List ℕ) (n : ℕ) (of : ℕ → List ℕ) (all vs : List ℕ) (m : ℕ)
+    → Gathers count ws n of all vs m [] → listIn vs m ≡ listIn ws n ++ gather of (listIn ws n) all
+gathers-list count ws n of all vs m a =
+    sym (append-nil (listIn vs m)) ∙ ap (λ (l : List ℕ). listIn vs m ++ l) (sym (gather-none of (listIn vs m))) ∙ a .list

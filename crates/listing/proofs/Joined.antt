@@ -2,11 +2,12 @@
 use mathlib.Core.Path.{_≡_, refl, sym, ap, _∙_}
 use mathlib.Core.Logic.{inl, inr}
 use mathlib.Core.Bool.{not, _&&_}
-use mathlib.Core.List.{List, [], _∷_, _++_, append-nil, reverse, List·Memᴰ·head, List·Memᴰ·tail, List·Memᴰ·not-nil, List·Memᴰ·cases-cons, Memᴰ·cast}
+use mathlib.Core.List.{List, [], _∷_, _++_, reverse, List·Memᴰ·head, List·Memᴰ·tail, List·Memᴰ·not-nil, List·Memᴰ·cases-cons, Memᴰ·append-left, Memᴰ·append-right, Memᴰ·cast}
 use Prim.Native.Nat.{ℕ, suc, _+_, _-_, _≤_, _<_}
 use native.Mathlib.Omega.{arith}
 use lib.Dec.{eqb}
-use lib.ListN.{length, take, drop}
+use lib.ListN.{length, take, drop, take-append-drop}
+use lib.Seq.{take-take}
 use Rattle.rules.specs.Ceilings.{nodeCeiling, workWords}
 use Rattle.rules.specs.Octets.{Bytes, put}
 use Rattle.rules.specs.Blob.{Block}
@@ -16,20 +17,21 @@ use Rattle.rules.specs.References.{edition1, targets}
 use Rattle.rules.specs.Listing.{_∈_, nodesBelow, gather, givenNodes, starts, work, found, reachedList, within, listed}
 use Rattle.rules.specs.Space.{stackAt}
 use Rattle.rules.specs.Laws.Octets.{length-lay, lay-put, part-put, drop-put}
-use Rattle.rules.specs.Laws.Lists.{Distinct, none, more, not-oneOf, fresh-new}
+use Rattle.rules.specs.Laws.Lists.{Distinct, none, more, mem-oneOf, not-oneOf, fresh-known, fresh-new}
 use Rattle.rules.specs.Laws.Tabled.{treeIn, tree-length}
+use Rattle.rules.specs.Laws.Order.{insert-length}
 use Rattle.rules.specs.Laws.Listing.{starts-of, of-starts}
+use Rattle.rules.specs.Laws.Starts.{start-small, below-starts}
 use Rattle.rules.specs.Laws.Kept.{Kept, lay-alike, tree-alike, marks-behind, list-behind, stack-behind, names-behind, names-inside}
 use Rattle.order.specs.Starts.{Asked, Started}
-use Rattle.order.specs.Laws.{insert-length, start-small, below-starts}
 use Rattle.listing.specs.State.{listIn, stackIn, Apart, Piled, Gains}
-use Rattle.listing.specs.Given.{belowIn, Gathers}
+use Rattle.listing.specs.Given.{belowIn, withBelow, Gathers}
 use Rattle.listing.specs.Walk.{Walked}
 use Rattle.listing.specs.Sift.{spared, Sifted}
 use Rattle.listing.specs.Lists.{Reaches, Lists}
-use Rattle.listing.proofs.Fresh.{Alike, alike-by, gather-none, work-same}
+use Rattle.listing.proofs.Fresh.{Alike, alike-by, fresh-none, work-same}
 use Rattle.listing.proofs.Parts.{apart-trans, apart-kept, list-length}
-use Rattle.listing.proofs.Gained.{gains-list}
+use Rattle.listing.proofs.Gained.{no-list, gathers-list}
 
 -- ---- lists
 
@@ -38,15 +40,26 @@ unfolding sort
 sort-length key [] = refl
 sort-length key (x ∷ l) = insert-length key x (sort key l) ∙ ap suc (sort-length key l)
 
-fresh-distinct : {l : List ℕ} → Distinct l → (noted : List ℕ) → ((x : ℕ) → x ∈ l → x ∈ noted → ⊥) → fresh noted l ≡ l
-unfolding fresh
-fresh-distinct none noted h = refl
-fresh-distinct (more {x = x} {l = l} n d) noted h =
-    fresh-new noted l x (not-oneOf x noted (λ m. h x (List·Memᴰ·head refl) m))
-    ∙ ap (λ (k : List ℕ). x ∷ k) (fresh-distinct d (x ∷ noted) apart)
+-- each alone, of a list without repeats
+gather-distinct : {l : List ℕ} → Distinct l → (noted : List ℕ) → ((x : ℕ) → x ∈ l → x ∈ noted → ⊥) → gather (λ c. c ∷ []) noted l ≡ l
+unfolding gather
+gather-distinct none noted h = refl
+gather-distinct (more {x = x} {l = l} n d) noted h =
+    ap (λ (new : List ℕ). new ++ gather (λ c. c ∷ []) (new ++ noted) l)
+    (fresh-new noted [] x (not-oneOf x noted (λ m. h x (List·Memᴰ·head refl) m)) ∙ ap (λ (k : List ℕ). x ∷ k) (fresh-none (x ∷ noted)))
+    ∙ ap (λ (k : List ℕ). x ∷ k) (gather-distinct d (x ∷ noted) apart)
   where
     apart : (y : ℕ) → y ∈ l → y ∈ x ∷ noted → ⊥
     apart y p q = elim (List·Memᴰ·cases-cons q) [ inl e ↦ n (Memᴰ·cast (sym e) p) | inr k ↦ h y (List·Memᴰ·tail p) k ]
+
+-- each with what it brings, where each is noted
+gather-noted : (f : ℕ → List ℕ) (cs noted : List ℕ) → ((c : ℕ) → c ∈ cs → c ∈ noted) → gather (λ c. c ∷ f c) noted cs ≡ gather f noted cs
+unfolding gather
+gather-noted f [] noted h = refl
+gather-noted f (c ∷ cs) noted h =
+    let new : List ℕ = fresh noted (f c) in
+    ap (λ (l : List ℕ). l ++ gather (λ d. d ∷ f d) (l ++ noted) cs) (fresh-known noted (f c) c (mem-oneOf (h c (List·Memᴰ·head refl))))
+    ∙ ap (λ (l : List ℕ). new ++ l) (gather-noted f cs (new ++ noted) (λ d m. Memᴰ·append-right new (h d (List·Memᴰ·tail m))))
 
 gather-by : (f g : ℕ → List ℕ) (cs noted : List ℕ) → ((c : ℕ) → c ∈ cs → f c ≡ g c) → gather f noted cs ≡ gather g noted cs
 unfolding gather
@@ -54,10 +67,6 @@ gather-by f g [] noted h = refl
 gather-by f g (c ∷ cs) noted h =
     ap (λ (l : List ℕ). fresh noted (f c) ++ l) (gather-by f g cs (fresh noted (f c) ++ noted) (λ d m. h d (List·Memᴰ·tail m)))
     ∙ ap (λ (l : List ℕ). fresh noted l ++ gather g (fresh noted l ++ noted) cs) (h c (List·Memᴰ·head refl))
-
-no-list : (ws : List ℕ) → listIn ws 0 ≡ []
-unfolding listIn
-no-list ws = refl
 
 -- ---- the start nodes
 
@@ -100,101 +109,114 @@ module _ (b : Block) (ws : List ℕ) (count : ℕ) (conf : List ℕ) (q : Asked 
     start-nodes : (x : ℕ) → x ∈ first → x < count
     start-nodes x m = omega (arith, start-small tree (q .kept .formed) conf (q .once) small x m, tree-length b ws count 0)
 
+    -- and of any number of the first of them
+    start-upto : (k x : ℕ) → x ∈ stackIn ws₁ k → k ≤ s → x < count
+    unfolding stackIn
+    start-upto k x m h =
+        let e : stackIn ws₁ k ≡ take k first = sym (take-take k s (drop stackAt ws₁) h) ∙ ap (take k) start-stack in
+        start-nodes x (rw (take-append-drop k first) at (Memᴰ·append-left (drop k first) (rw e at m)))
+
     pub start-room : workWords ≤ length ws₁
     start-room = omega (arith, q .kept .room, start-apart .size)
 
-    -- ---- the configured nodes
+    -- ---- no node listed
 
-    module _ (ws₂ : List ℕ) (n₂ : ℕ) (g : Gains count ws₁ 0 conf ws₂ n₂ []) where
-      conf-list : listIn ws₂ n₂ ≡ conf
-      conf-list =
-          gains-list count ws₁ 0 conf ws₂ n₂ g
-          ∙ ap (λ (l : List ℕ). l ++ fresh l conf) (no-list ws₁)
-          ∙ fresh-distinct (q .once) [] (λ x m k. List·Memᴰ·not-nil k)
+    module _ (ws₂ : List ℕ) (z : Gains count ws₁ 0 [] ws₂ 0 []) where
+      pub clear-nodes : {k : ℕ} (x : ℕ) → x ∈ stackIn ws₂ k → k ≤ s → x < count
+      clear-nodes {k} x m h = start-upto k x (rw (z .stack k) at m) h
 
-      conf-stack : stackIn ws₂ s ≡ first
-      conf-stack = g .stack s ∙ start-stack
+      -- ---- the configured nodes
 
-      conf-apart : Apart ws ws₂
-      conf-apart = apart-trans start-apart (g .apart)
+      module _ (ws₃ : List ℕ) (n₃ : ℕ) (g : (a : Block) → Gathers count ws₂ 0 (withBelow a ws₂ count 0) conf ws₃ n₃ []) where
+        alone : (c : ℕ) → withBelow b ws₂ count 0 c ≡ c ∷ []
+        unfolding keep stackIn
+        alone c = refl
 
-      pub conf-nodes : (x : ℕ) → x ∈ stackIn ws₂ s → x < count
-      conf-nodes = rw conf-stack start-nodes
+        conf-list : listIn ws₃ n₃ ≡ conf
+        conf-list =
+            gathers-list count ws₂ 0 (withBelow b ws₂ count 0) conf ws₃ n₃ (g b)
+            ∙ ap (λ (l : List ℕ). l ++ gather (withBelow b ws₂ count 0) l conf) (no-list ws₂)
+            ∙ gather-by (withBelow b ws₂ count 0) (λ c. c ∷ []) conf [] (λ c m. alone c)
+            ∙ gather-distinct (q .once) [] (λ x m k. List·Memᴰ·not-nil k)
 
-      -- ---- the given nodes
+        conf-stack : stackIn ws₃ s ≡ first
+        conf-stack = g b .stack s ∙ z .stack s ∙ start-stack
 
-      module _ (ws₃ : List ℕ) (n₃ : ℕ) (h : (a : Block) → Gathers count ws₂ n₂ (belowIn a ws₂ count s) conf ws₃ n₃ []) where
-        below-one : (c : ℕ) → c ∈ conf → belowIn b ws₂ count s c ≡ nodesBelow (frame tree) c
-        below-one c m =
-            ap (λ (t : Tree). keep (below t c) (stackIn ws₂ s)) (tree-alike b ws ws₂ count (q .kept .few) (conf-apart .alike))
-            ∙ ap (keep (below tree c)) conf-stack
-            ∙ sym (below-starts tree (q .kept .formed) conf (q .once) small c m)
+        conf-apart : Apart ws ws₃
+        conf-apart = apart-trans start-apart (apart-trans (z .apart) (g b .apart))
 
-        given-list : listIn ws₃ n₃ ≡ givenNodes (frame tree) conf
-        unfolding givenNodes
-        given-list =
-            sym (append-nil (listIn ws₃ n₃))
-            ∙ ap (λ (l : List ℕ). listIn ws₃ n₃ ++ l) (sym (gather-none (belowIn b ws₂ count s) (listIn ws₃ n₃)))
-            ∙ h b .list
-            ∙ ap (λ (l : List ℕ). l ++ gather (belowIn b ws₂ count s) l conf) conf-list
-            ∙ ap (λ (l : List ℕ). conf ++ l) (gather-by (belowIn b ws₂ count s) (nodesBelow (frame tree)) conf conf below-one)
+        -- ---- the given nodes
 
-        given-stack : stackIn ws₃ s ≡ first
-        given-stack = h b .stack s ∙ conf-stack
+        module _ (ws₄ : List ℕ) (n₄ : ℕ) (h : (a : Block) → Gathers count ws₃ n₃ (withBelow a ws₃ count s) conf ws₄ n₄ []) where
+          below-one : (c : ℕ) → c ∈ conf → belowIn b ws₃ count s c ≡ nodesBelow (frame tree) c
+          below-one c m =
+              ap (λ (t : Tree). keep (below t c) (stackIn ws₃ s)) (tree-alike b ws ws₃ count (q .kept .few) (conf-apart .alike))
+              ∙ ap (keep (below tree c)) conf-stack
+              ∙ sym (below-starts tree (q .kept .formed) conf (q .once) small c m)
 
-        given-apart : Apart ws ws₃
-        given-apart = apart-trans conf-apart (h b .apart)
+          given-list : listIn ws₄ n₄ ≡ givenNodes (frame tree) conf
+          unfolding givenNodes
+          given-list =
+              gathers-list count ws₃ n₃ (withBelow b ws₃ count s) conf ws₄ n₄ (h b)
+              ∙ ap (λ (l : List ℕ). l ++ gather (withBelow b ws₃ count s) l conf) conf-list
+              ∙ ap (λ (l : List ℕ). conf ++ l) (gather-noted (belowIn b ws₃ count s) conf conf (λ c m. m) ∙ gather-by (belowIn b ws₃ count s) (nodesBelow (frame tree)) conf conf below-one)
 
-        given-many : n₃ ≡ s
-        unfolding starts
-        given-many =
-            sym (list-length ws₃ (h b .marked .room) n₃ (omega (arith, h b .marked .short, h b .marked .few)))
-            ∙ ap length given-list
-            ∙ sym (sort-length (path tree) (givenNodes (frame tree) conf))
-            ∙ sym (started .many)
+          given-stack : stackIn ws₄ s ≡ first
+          given-stack = h b .stack s ∙ conf-stack
 
-        pub given-kept : Kept b ws₃ count
-        given-kept = apart-kept b ws ws₃ count given-apart (q .kept)
+          given-apart : Apart ws ws₄
+          given-apart = apart-trans conf-apart (h b .apart)
 
-        pub given-piled : Piled ws₃ count n₃ s
-        given-piled = record {
-          marked = h b .marked;
-          least = omega (arith, given-many);
-          nodes = rw given-stack start-nodes;
-        }
+          given-many : n₄ ≡ s
+          unfolding starts
+          given-many =
+              sym (list-length ws₄ (h b .marked .room) n₄ (omega (arith, h b .marked .short, h b .marked .few)))
+              ∙ ap length given-list
+              ∙ sym (sort-length (path tree) (givenNodes (frame tree) conf))
+              ∙ sym (started .many)
 
-        -- ---- what is reached
+          pub given-kept : Kept b ws₄ count
+          given-kept = apart-kept b ws ws₄ count given-apart (q .kept)
 
-        module _ (ws₄ : List ℕ) (n₄ : ℕ) (w : Walked b ws₃ count n₃ s ws₄ n₄) where
-          same : Alike (givenNodes (frame tree) conf) first
-          same = alike-by (givenNodes (frame tree) conf) first
-              (of-starts edition1 tree (q .kept .formed) conf (q .once) small)
-              (starts-of edition1 tree (q .kept .formed) conf (q .once) small)
-
-          reached-list : listIn ws₄ n₄ ≡ reachedList edition1 tree conf
-          unfolding reachedList found
-          reached-list =
-              let given : List ℕ = givenNodes (frame tree) conf in
-              let k : count + s - n₃ ≡ length tree = omega (arith, given-many, tree-length b ws count 0) in
-              w .list
-              ∙ ap (λ (t : Tree). listIn ws₃ n₃ ++ work (targets edition1 t) (count + s - n₃) (reverse (stackIn ws₃ s)) (listIn ws₃ n₃))
-              (tree-alike b ws ws₃ count (q .kept .few) (given-apart .alike))
-              ∙ ap (λ (l : List ℕ). l ++ work (targets edition1 tree) (count + s - n₃) (reverse (stackIn ws₃ s)) l) given-list
-              ∙ ap (λ (l : List ℕ). given ++ work (targets edition1 tree) (count + s - n₃) (reverse l) given) given-stack
-              ∙ ap (λ (j : ℕ). given ++ work (targets edition1 tree) j (reverse first) given) k
-              ∙ ap (λ (l : List ℕ). given ++ l) (work-same (targets edition1 tree) (length tree) (reverse first) given first same)
-
-          reached-short : n₄ ≤ nodeCeiling
-          reached-short = omega (arith, w .marked .short, w .marked .few)
-
-          pub reaches : Reaches b ws count conf ws₄ n₄
-          unfolding listIn
-          reaches = record {
-            apart = apart-trans given-apart (w .apart);
-            short = reached-short;
-            many = sym (list-length ws₄ (w .marked .room) n₄ reached-short) ∙ ap length reached-list;
-            list = reached-list;
+          pub given-piled : Piled ws₄ count n₄ s
+          given-piled = record {
+            marked = h b .marked;
+            least = omega (arith, given-many);
+            nodes = rw given-stack start-nodes;
           }
+
+          -- ---- what is reached
+
+          module _ (ws₅ : List ℕ) (n₅ : ℕ) (w : Walked b ws₄ count n₄ s ws₅ n₅) where
+            same : Alike (givenNodes (frame tree) conf) first
+            same = alike-by (givenNodes (frame tree) conf) first
+                (of-starts edition1 tree (q .kept .formed) conf (q .once) small)
+                (starts-of edition1 tree (q .kept .formed) conf (q .once) small)
+
+            reached-list : listIn ws₅ n₅ ≡ reachedList edition1 tree conf
+            unfolding reachedList found
+            reached-list =
+                let given : List ℕ = givenNodes (frame tree) conf in
+                let k : count + s - n₄ ≡ length tree = omega (arith, given-many, tree-length b ws count 0) in
+                w .list
+                ∙ ap (λ (t : Tree). listIn ws₄ n₄ ++ work (targets edition1 t) (count + s - n₄) (reverse (stackIn ws₄ s)) (listIn ws₄ n₄))
+                (tree-alike b ws ws₄ count (q .kept .few) (given-apart .alike))
+                ∙ ap (λ (l : List ℕ). l ++ work (targets edition1 tree) (count + s - n₄) (reverse (stackIn ws₄ s)) l) given-list
+                ∙ ap (λ (l : List ℕ). given ++ work (targets edition1 tree) (count + s - n₄) (reverse l) given) given-stack
+                ∙ ap (λ (j : ℕ). given ++ work (targets edition1 tree) j (reverse first) given) k
+                ∙ ap (λ (l : List ℕ). given ++ l) (work-same (targets edition1 tree) (length tree) (reverse first) given first same)
+
+            reached-short : n₅ ≤ nodeCeiling
+            reached-short = omega (arith, w .marked .short, w .marked .few)
+
+            pub reaches : Reaches b ws count conf ws₅ n₅
+            unfolding listIn
+            reaches = record {
+              apart = apart-trans given-apart (w .apart);
+              short = reached-short;
+              many = sym (list-length ws₅ (w .marked .room) n₅ reached-short) ∙ ap length reached-list;
+              list = reached-list;
+            }
 
 -- ---- what is listed
 

@@ -6,7 +6,7 @@ use native.Mathlib.Omega.{arith}
 use native.Mathlib.Numerals.{add-one}
 use lib.ListN.{length, getD, take, drop, set, length-drop}
 use lib.Seq.{drop-set-lt, drop-set-add, take-set-le, take-suc-set, take-suc, getD-drop, length-take-le}
-use Rattle.rules.specs.Ceilings.{nodeCeiling, nodeWords, workWords}
+use Rattle.rules.specs.Ceilings.{nodeCeiling, workWords}
 use Rattle.rules.specs.Octets.{lay}
 use Rattle.rules.specs.Space.{tableWords, marksAt, listAt, stackAt}
 use Rattle.rules.specs.Laws.Octets.{length-lay, lay-one, lay-one-other}
@@ -52,24 +52,6 @@ apart-lay ws at x h g l = record {
 
 pub apart-kept : (b : Block) (ws vs : List ℕ) (count : ℕ) → Apart ws vs → Kept b ws count → Kept b vs count
 apart-kept b ws vs count a k = kept-alike b ws vs count (k .few) (a .alike) (a .size) k
-
--- ---- the numbers of the code
-
-pub marks-at : 8192 ≡ marksAt
-unfolding marksAt tableWords nodeCeiling nodeWords
-marks-at = refl
-
-pub list-at : 10240 ≡ listAt
-unfolding listAt marksAt tableWords nodeCeiling nodeWords
-list-at = refl
-
-pub stack-at : 12288 ≡ stackAt
-unfolding stackAt listAt marksAt tableWords nodeCeiling nodeWords
-stack-at = refl
-
-pub ceiling : nodeCeiling ≡ 2048
-unfolding nodeCeiling
-ceiling = refl
 
 -- ---- the list and the stack
 

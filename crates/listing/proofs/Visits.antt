@@ -2,18 +2,18 @@
 use mathlib.Core.Path.{_≡_, refl, sym, ap, _∙_}
 use mathlib.Core.Bool.{true, false}
 use mathlib.Core.List.{List, [], _∷_, map, List·Memᴰ·head, List·Memᴰ·not-nil}
-use mathlib.Core.Option.{Option, some}
+use mathlib.Core.Option.{Option}
 use Prim.Native.Nat.{ℕ, _+_, _/_, _%_, _≤_, _<_}
 use Prim.Native.String.{String}
 use native.Mathlib.Omega.{arith}
 use lib.Dec.{eqb}
-use lib.ListN.{length, length-map}
+use lib.ListN.{length}
 use Rattle.rules.specs.Ceilings.{nodeCeiling}
 use Rattle.rules.specs.Octets.{Bytes, part}
 use Rattle.rules.specs.Blob.{Block}
 use Rattle.rules.specs.Tokens.{tokenAt}
 use Rattle.rules.specs.Events.{Property, stringAt}
-use Rattle.rules.specs.Tree.{Node, Tree, node, numbersFrom, propsOf}
+use Rattle.rules.specs.Tree.{Node, Tree, node, propsOf}
 use Rattle.rules.specs.References.{Rules, Reference, isReference, cellRows, cellsIn, edition1, lookup, cellCount, target, scan, referencesOf, targetsIn, targets}
 use Rattle.rules.specs.declared.Token.{Token}
 use Rattle.rules.specs.declared.Token.the-variants as token
@@ -24,10 +24,9 @@ use types.Run.{OneOf, miss}
 use denote.Enum.Declared.{tagOf}
 use Rattle.rules.specs.Listing.{_∈_}
 use Rattle.rules.specs.Laws.Tests.{by-test}
-use Rattle.rules.specs.Laws.Lists.{length-numbers}
-use Rattle.rules.specs.Laws.References.{scanFrom-mem, placeOf-lt, references-yes, references-no}
+use Rattle.rules.specs.Laws.References.{scanFrom-mem, references-yes, references-no}
 use Rattle.rules.specs.Laws.Events.{eventsAt, events-item, events-end, events-cut}
-use Rattle.rules.specs.Laws.Tabled.{treeIn, node-in, propsBehind, propsAt, beginOf, lookIn, phandleIn, phandlesFrom, countNamed, count-named}
+use Rattle.rules.specs.Laws.Tabled.{treeIn, node-in, propsBehind, propsAt, beginOf, lookIn, countNamed, count-named, look-small}
 use Rattle.rules.specs.Laws.Kept.{Alike, Kept, tree-alike, look-alike}
 use Rattle.references.specs.declared.scan.Next.{Next}
 use Rattle.references.specs.declared.scan.Next.the-variants.{Reference as Refers, End}
@@ -52,16 +51,11 @@ module _ (b : Block) (ws vs : List ℕ) (count : ℕ) (few : count ≤ nodeCeili
       (same-values (look-alike b ws vs count few s))
       ∙ ap (λ (t : Tree). scanAt (lookIn ws count) (λ (m : ℕ). countNamed o (node t m .props)) v i) (tree-alike b ws vs count few s)
 
-found-small : (ws : List ℕ) (count w m : ℕ) → lookIn ws count w ≡ some m → m < count
-unfolding lookIn phandlesFrom
-found-small ws count w m e =
-    omega (arith, placeOf-lt w (phandlesFrom ws 0 count) m e, length-map (numbersFrom 0 count) (phandleIn ws), length-numbers 0 count)
-
 scan-small : (b : Block) (ws : List ℕ) (count : ℕ) (o : Option String) (v : Bytes) (i : ℕ) (x : Reference) → x ∈ scanIn b ws count o v i → x .target < count
 unfolding scanAt
 scan-small b ws count o v i x m = by-test (eqb (length v % 4) 0)
     (λ e. let k = scanFrom-mem (lookIn ws count) (λ (z : ℕ). countNamed o (node (treeIn b ws count) z .props)) (length v / 4) v (length v / 4) i x (rw e at m) in
-    found-small ws count (k .0) (x .target) (k .1))
+    look-small ws count (k .0) (x .target) (k .1))
     (λ e. absurd (List·Memᴰ·not-nil (rw e at m)))
 
 -- the targets from word i on

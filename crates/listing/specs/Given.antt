@@ -1,6 +1,6 @@
 -- The given nodes, as they are listed.
 use mathlib.Core.Path.{_≡_}
-use mathlib.Core.List.{List, _++_}
+use mathlib.Core.List.{List, _∷_, _++_}
 use Prim.Native.Nat.{ℕ}
 use Rattle.rules.specs.Blob.{Block}
 use Rattle.rules.specs.Lists.{keep}
@@ -12,6 +12,10 @@ use Rattle.listing.specs.State.{listIn, stackIn, Apart, Marked}
 -- those of the start nodes, s of them, that are below node p
 abbrev pub belowIn : Block → List ℕ → (count s p : ℕ) → List ℕ
 belowIn b ws count s p = keep (below (treeIn b ws count) p) (stackIn ws s)
+
+-- and node p before them
+abbrev pub withBelow : Block → List ℕ → (count s p : ℕ) → List ℕ
+withBelow b ws count s p = p ∷ belowIn b ws count s p
 
 -- From ws to vs, with n and then m nodes listed: what is new of each of `all` has been listed, but for what is new of each of
 -- `left`. The stack stays.

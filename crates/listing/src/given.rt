@@ -14,10 +14,10 @@ ghost use Rattle.rules.specs.Tree.{below};
 ghost use Rattle.rules.specs.Listing.{_∈_};
 ghost use Rattle.rules.specs.Laws.Tabled.{treeIn};
 ghost use Rattle.listing.specs.State.{stackIn, Marked, Gains};
-ghost use Rattle.listing.specs.Given.{belowIn, Gathers};
+ghost use Rattle.listing.specs.Given.{belowIn, withBelow, Gathers};
 
 // Clears the marks of `count` nodes: none is listed.
-fn clear_marks(work: &mut [u32], count: usize)
+pub fn clear_marks(work: &mut [u32], count: usize)
     requires { ⌜ (count ≤ nodeCeiling) × (workWords ≤ length (now work)) ⌝ }
     ensures { λ _. ⌜ Gains count (now (work .entry)) 0 [] (now (work .exit)) 0 [] ⌝ }
 {
@@ -40,22 +40,6 @@ fn list(work: &mut [u32], n: usize, x: usize) -> usize
     n + 1
 }
 
-// Begins the list with the configured nodes, in their order. Answers how many there are.
-pub fn list_configured(work: &mut [u32], count: usize, conf: &[u32]) -> usize
-    requires { ⌜ (count ≤ nodeCeiling) × (workWords ≤ length (now work)) ⌝ }
-    requires { ⌜ ((x : ℕ) → x ∈ now conf → x < count) ⌝ }
-    ensures { λ r. ⌜ Gains count (now (work .entry)) 0 (now (conf .entry)) (now (work .exit)) r [] ⌝ }
-{
-    clear_marks(work, count);
-    let mut n = 0;
-    let mut i = 0;
-    while i < conf.len() {
-        n = list(work, n, conf[i] as usize);
-        i += 1;
-    }
-    n
-}
-
 // Lists node x if it is below node p and is not listed.
 fn list_if_below(work: &mut [u32], count: usize, p: usize, x: usize, n: usize) -> usize
     requires { ⌜ x < count ⌝ }
@@ -68,7 +52,7 @@ fn list_if_below(work: &mut [u32], count: usize, p: usize, x: usize, n: usize) -
     list(work, n, x)
 }
 
-// Lists those of the start nodes that are below node p and are not listed. Answers how many are listed then.
+// Lists those of the first `starts` start nodes that are below node p and are not listed. Answers how many are listed then.
 fn list_below(work: &mut [u32], count: usize, p: usize, starts: usize, listed: usize) -> usize
     requires { ⌜ starts ≤ nodeCeiling ⌝ }
     requires { ⌜ ((x : ℕ) → x ∈ stackIn (now work) starts → x < count) ⌝ }
@@ -85,24 +69,36 @@ fn list_below(work: &mut [u32], count: usize, p: usize, starts: usize, listed: u
     n
 }
 
-// Lists for each of the configured nodes those of the start nodes that are below it and are not listed. Answers how many are
+// Lists node p, then those of the first `starts` start nodes that are below it, each unless it is listed. Answers how many are
 // listed then.
-pub fn list_below_each(
+fn list_with(work: &mut [u32], count: usize, p: usize, starts: usize, listed: usize) -> usize
+    requires { ⌜ (p < count) × (starts ≤ nodeCeiling) ⌝ }
+    requires { ⌜ ((x : ℕ) → x ∈ stackIn (now work) starts → x < count) ⌝ }
+    requires { ⌜ Marked (now work) count listed ⌝ }
+    ensures { λ r. ⌜ ((b : Block) → Gains count (now (work .entry)) listed (withBelow b (now (work .entry)) count starts p) (now (work .exit)) r []) ⌝ }
+{
+    let n = list(work, listed, p);
+    list_below(work, count, p, starts, n)
+}
+
+// Lists each of the configured nodes, in their order, with those of the first `starts` start nodes that are below it, each unless
+// it is listed. Answers how many are listed then.
+pub fn list_each(
     work: &mut [u32],
     count: usize,
     conf: &[u32],
     starts: usize,
     listed: usize,
 ) -> usize
-    requires { ⌜ starts ≤ nodeCeiling ⌝ }
+    requires { ⌜ ((x : ℕ) → x ∈ now conf → x < count) × (starts ≤ nodeCeiling) ⌝ }
     requires { ⌜ ((x : ℕ) → x ∈ stackIn (now work) starts → x < count) ⌝ }
     requires { ⌜ Marked (now work) count listed ⌝ }
-    ensures { λ r. ⌜ ((b : Block) → Gathers count (now (work .entry)) listed (belowIn b (now (work .entry)) count starts) (now (conf .entry)) (now (work .exit)) r []) ⌝ }
+    ensures { λ r. ⌜ ((b : Block) → Gathers count (now (work .entry)) listed (withBelow b (now (work .entry)) count starts) (now (conf .entry)) (now (work .exit)) r []) ⌝ }
 {
     let mut n = listed;
     let mut i = 0;
     while i < conf.len() {
-        n = list_below(work, count, conf[i] as usize, starts, n);
+        n = list_with(work, count, conf[i] as usize, starts, n);
         i += 1;
     }
     n

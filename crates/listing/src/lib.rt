@@ -1,8 +1,8 @@
 // The list of what a passthrough reaches, `find_all_passthrough_devices` of the source: the configured nodes, those below them,
 // and what the reference properties of all of these reach, in the order in which it is found. All of it stands in the work space
 // behind the node table: a mark for each node, the list, and the stack of nodes that are still to be visited.
-use crate::given::list_below_each;
-use crate::given::list_configured;
+use crate::given::clear_marks;
+use crate::given::list_each;
 use crate::sift::sift;
 use crate::walk::walk;
 ghost use Rattle.order.specs.Starts.{Asked};
@@ -30,8 +30,10 @@ pub fn reached(
     ensures { λ r. ⌜ Reaches (blockOf place (now (structure .entry)) (now (strings .entry))) (now (work .entry)) count (now (conf .entry)) (now (work .exit)) r ⌝ }
 {
     let starts = order::starts(structure, place, work, count, conf);
-    let configured = list_configured(work, count, conf);
-    let given = list_below_each(work, count, conf, starts, configured);
+    clear_marks(work, count);
+    // with none of the start nodes, so that all of the configured ones come first
+    let configured = list_each(work, count, conf, 0, 0);
+    let given = list_each(work, count, conf, starts, configured);
     walk(structure, strings, place, work, count, given, starts)
 }
 

@@ -1,5 +1,5 @@
 -- Nodes in the words of the work space: how they are searched, and how one more is put among them.
-use mathlib.Core.Path.{_≡_, refl, sym, ap, ap₂, _∙_}
+use mathlib.Core.Path.{_≡_, sym, ap, ap₂, _∙_}
 use mathlib.Core.Bool.{Bool, true, false}
 use mathlib.Core.List.{List, [], _∷_, _++_}
 use Prim.Native.Nat.{ℕ, zero, suc, _+_, _-_, _≤_, _<_}
@@ -11,8 +11,7 @@ use lib.Seq.{drop-cons, take-at, drop-at, drop-drop, drop-append-le, length-take
 use borrow.Author.Tests.{eqb-true, eqb-false}
 use Rattle.rules.specs.Octets.{Bytes, part, put, lay, before}
 use Rattle.rules.specs.Tree.{Tree, path}
-use Rattle.rules.specs.Ceilings.{nodeCeiling, nodeWords}
-use Rattle.rules.specs.Space.{tableWords, marksAt, listAt, stackAt}
+use Rattle.rules.specs.Space.{stackAt}
 use Rattle.rules.specs.Laws.Tests.{by-test, by-le, never, not-passed}
 use Rattle.rules.specs.Laws.Octets.{lay-put, lay-past, lay-nil, lay-one, lay-lay, length-lay, put-inside}
 use Rattle.rules.specs.Laws.Order.{before-trans}
@@ -22,11 +21,6 @@ use Rattle.rules.specs.Laws.Tabled.{tree-length}
 use Rattle.paths.specs.Trees.{treeOf}
 use Rattle.paths.specs.Order.{Orders}
 use Rattle.order.specs.Region.{nodeOf, Ordered, Between, Halves, inserted}
-
--- the number that code has for it
-pub stack-is : 12288 ≡ stackAt
-unfolding stackAt listAt marksAt tableWords nodeCeiling nodeWords
-stack-is = refl
 
 -- ---- words laid over and in front of others
 

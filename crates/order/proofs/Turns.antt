@@ -15,14 +15,14 @@ use Rattle.rules.specs.Tree.{Tree, frame, path, numbersFrom}
 use Rattle.rules.specs.Listing.{_∈_, starts, within}
 use Rattle.rules.specs.Space.{tableWords, stackAt}
 use Rattle.rules.specs.Laws.Lists.{keep-of, keep-yes, keep-no, numbers-mem, mem-at}
-use Rattle.rules.specs.Laws.Order.{Ascending, sort-of}
+use Rattle.rules.specs.Laws.Order.{Ascending, sort-of, insert-at, insert-length, ascending-at}
 use Rattle.rules.specs.Laws.Paths.{Formed}
+use Rattle.rules.specs.Laws.Starts.{sorted-ascending, starts-within}
 use Rattle.rules.specs.Laws.Tabled.{treeIn, tree-length}
 use Rattle.rules.specs.Laws.Octets.{lay-nil}
 use Rattle.rules.specs.Laws.Kept.{tree-alike, lay-alike, marks-behind, list-behind, stack-behind, names-behind, names-inside}
 use Rattle.order.specs.Region.{nodeOf, Ordered, Between, inserted}
 use Rattle.order.specs.Starts.{Asked, startsFrom, Placed, Started}
-use Rattle.order.specs.Laws.{insert-at, insert-length, ascending-at, sorted-ascending, starts-within}
 use Rattle.order.proofs.Regions.{laid-at, laid-insert}
 
 -- ---- the start nodes of number i or more

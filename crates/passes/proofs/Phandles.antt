@@ -26,8 +26,8 @@ use Rattle.passes.specs.declared.shared.Row.{Row}
 use Rattle.passes.specs.declared.shared.Row.the-variants.{Go, Fault}
 use Rattle.passes.specs.Rows.{rowHas, rowBelow, rowGiven, rowsFrom, passed, rowGive, rowProp, rowTurn}
 use Rattle.rules.specs.Laws.Events.{eventsAt}
-use Rattle.passes.specs.Passes.{blockOf, nodesIn}
-use Rattle.passes.proofs.Turns.{events-all, events-item, events-stop}
+use Rattle.doubled.specs.Passes.{blockOf, nodesIn}
+use Rattle.doubled.proofs.Turns.{events-all, events-item, events-stop}
 use Rattle.rules.specs.Laws.Passes.{phandle-here, phandle-past}
 
 -- ---- a search that counts up

@@ -30,8 +30,8 @@ use Rattle.passes.specs.declared.cells.Turn.the-variants.{Go, Fault}
 use Rattle.passes.proofs.cells.Seen as seens
 use Rattle.passes.specs.Cells.{had, onGiven, onProperty, onHas, onKind}
 use Rattle.rules.specs.Laws.Events.{eventsAt}
-use Rattle.passes.specs.Passes.{blockOf, nodesIn}
-use Rattle.passes.proofs.Turns.{events-all, events-item, events-stop}
+use Rattle.doubled.specs.Passes.{blockOf, nodesIn}
+use Rattle.doubled.proofs.Turns.{events-all, events-item, events-stop}
 
 -- ---- names
 

@@ -1,7 +1,3 @@
--- How the passes' answers are read, and what one token does in each. What is refused is said in rules: Tree.
-pub mod Passes
+-- What one token does in each pass. What is refused is said in rules: Tree; how an answer is read, in doubled: Passes.
 pub mod Cells
 pub mod Rows
-pub mod Sorted
-pub mod Props
-pub mod Siblings

@@ -2,9 +2,9 @@
 use mathlib.Core.Bool.{Bool, true, false, _&&_, _||_}
 use mathlib.Core.List.{List, [], _∷_}
 use mathlib.Core.Option.{Option, none, some}
-use Prim.Native.Nat.{ℕ, zero, suc, _+_, _*_, _/_}
-use lib.Dec.{eqb, ltb}
-use lib.ListN.{length, getD, set}
+use Prim.Native.Nat.{ℕ, zero, suc, _+_, _*_}
+use lib.Dec.{eqb}
+use lib.ListN.{getD, set}
 use Rattle.rules.specs.Ceilings.{nodeWords}
 use Rattle.rules.specs.Octets.{Bytes, if_then_else_, wordAt, part}
 use Rattle.rules.specs.Outcome.{Verdict, refuses, passes}
@@ -12,16 +12,13 @@ use Rattle.rules.specs.Events.{stringAt}
 use Rattle.rules.specs.Tree.{Node, isPhandle, phandleProp}
 use Rattle.rules.specs.declared.Kind.{Kind}
 use Rattle.rules.specs.declared.Kind.the-variants.{Begin, EndNode, Prop, Nop}
+use Rattle.doubled.specs.Passes.{hasRow}
 use Rattle.passes.specs.declared.shared.Row.{Row}
 use Rattle.passes.specs.declared.shared.Row.the-variants.{Go, Fault}
 
 -- ---- rows
 
--- node i has a row in w
-abbrev pub hasRow : List ℕ → ℕ → Bool
-hasRow w i = ltb i (length w / nodeWords)
-
--- its row says that its phandle is v
+-- node i's row says that its phandle is v
 unfoldable pub rowHas : List ℕ → (i v : ℕ) → Bool
 rowHas w i v = hasRow w i && (eqb (getD w (nodeWords * i + 2) 0) 1 && eqb (getD w (nodeWords * i + 3) 0) v)
 

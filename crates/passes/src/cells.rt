@@ -1,13 +1,13 @@
 // Refusal 11: a property that is read as a 32-bit word isn't one, or a node's two phandle names disagree.
-use crate::Found;
 use crate::words::cells_name;
 use crate::words::phandle_name;
+use doubled::Found;
 use rules::Kind;
 use rules::Token;
 ghost use mathlib.Core.Path.{_≡_};
 ghost use Prim.Native.Nat.{ℕ};
 ghost use Rattle.passes.specs.Cells.{onGiven, onProperty, onKind};
-ghost use Rattle.passes.specs.Passes.{nodesIn, verdict, Inside};
+ghost use Rattle.doubled.specs.Passes.{nodesIn, verdict, Inside};
 ghost use Rattle.rules.specs.Tree.{wordsJudged};
 
 // What is known of the node whose properties are read.

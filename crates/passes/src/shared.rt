@@ -1,13 +1,13 @@
 // Refusal 12: two nodes have one phandle. On its way the pass writes each node's phandle into its row of the node table.
-use crate::Found;
 use crate::words::phandle_name;
+use doubled::Found;
 use rules::Kind;
 use rules::NODE_WORDS;
 use rules::Token;
 ghost use mathlib.Core.Path.{_≡_};
 ghost use Prim.Native.Nat.{ℕ, _<_};
 ghost use lib.ListN.{length};
-ghost use Rattle.passes.specs.Passes.{nodesIn, verdict, Inside};
+ghost use Rattle.doubled.specs.Passes.{nodesIn, verdict, Inside};
 ghost use Rattle.passes.specs.Rows.{rowHas, rowBelow, rowGiven, passed, rowGive, rowTurn, rowsFrom};
 
 // What a token does: the number of the node whose phandle is still to be found, or of the next node where it wants none; or

@@ -16,12 +16,11 @@ use Rattle.rules.specs.Copy.{null, isCpus, cpuChild, stranger}
 use Rattle.rules.specs.Space.{marksAt, stackAt, namesAt}
 use Rattle.rules.specs.Laws.Tests.{by-test}
 use Rattle.rules.specs.Laws.Octets.{lay-one-same, lay-one-other, length-lay}
-use Rattle.rules.specs.Laws.Kept.{Kept, only-then, only-one, only-tree}
+use Rattle.rules.specs.Laws.Kept.{Kept, only-then, only-one, only-tree, marks-behind, list-behind, stack-behind, names-behind, names-room}
 use Rattle.rules.specs.Laws.Tabled.{treeIn, tree-length}
 use Rattle.picks.specs.Marks.{marked, listIn, Noted}
 use Rattle.picks.specs.Codes.{next, taken, codeOf, code-root, code-step, taken-picked}
 use Rattle.picks.specs.Turns.{parentCode, codeAt, markAt, turned, pickOf, Coded, Picks}
-use Rattle.picks.proofs.Places.{Apart, apart, stack-at}
 
 -- only a child of `/cpus` is a stranger
 tame : (t : Tree) (ids : List ℕ) (i : ℕ) → isCpus (frame t) (node t i .parent) ≡ false → stranger t ids i ≡ false
@@ -53,7 +52,7 @@ module _ (b : Block) (ws : List ℕ) (count : ℕ) (kept : Kept b ws count) (exc
 
   module _ (vs : List ℕ) (i : ℕ) (h : i < count) (c : Coded t count excl ids ls ws vs i) where
     same-tree : treeIn b vs count ≡ t
-    same-tree = only-tree b count (apart .table) (kept .few) (c .only)
+    same-tree = only-tree b count marks-behind (kept .few) (c .only)
 
     -- the code that the words say is the node's
     code-is : (k : ℕ) → k ≡ i → codeAt b vs count excl ids i ≡ codeOf (frame t) (stranger t ids) ids excl ls i
@@ -77,25 +76,22 @@ module _ (b : Block) (ws : List ℕ) (count : ℕ) (kept : Kept b ws count) (exc
     mark-is : markAt vs i own-code ≡ pickOf t excl ids ls i
     mark-is =
         ap₂ (λ (d : ℕ) (o : Bool). if taken (eqb i 0) d o then 1 else 0) (code-is i refl) (c .over i h)
-        ∙ ap (λ (d : Bool). if d then 1 else 0) (taken-picked (record { conf = []; excl = excl; ids = ids }) t (kept .formed) (stranger t ids) ls i)
+        ∙ ap (λ (d : Bool). if d then 1 else 0) (taken-picked (record { conf = []; excl = excl; ids = ids }) t (stranger t ids) ls i)
 
     pub coded-more : (us : List ℕ) → us ≡ turned b vs count excl ids i → Coded t count excl ids ls ws us (i + 1)
     coded-more us e = rw e (record {
-      only = only-then (c .only) (only-then (only-one vs (stackAt + i) own-code (omega (arith, a .marks, a .list)) (omega (arith, a .stack, a .names, few))) (only-one mid (marksAt + i) own-mark (omega arith) (omega (arith, a .marks, a .list, a .stack, a .names, few))));
-      list = λ x g l. outer x (λ q. omega (arith, a .marks, g, few)) ∙ inner x (λ q. omega (arith, l)) ∙ c .list x g l;
-      codes = λ x l. outer (stackAt + x) (λ q. omega (arith, a .marks, a .list, few)) ∙ by-test (eqb x i)
-          (λ q. let z : x ≡ i = eqb-true x i q in rw z (lay-one-same vs (stackAt + i) own-code 0 (omega (arith, a .stack, a .names, c .only .size, kept .room, few)) ∙ code-is i refl))
+      only = only-then (c .only) (only-then (only-one vs (stackAt + i) own-code (omega (arith, list-behind, stack-behind)) (omega (arith, names-behind, names-room, few))) (only-one mid (marksAt + i) own-mark (omega arith) (omega (arith, list-behind, stack-behind, names-behind, names-room, few))));
+      list = λ x g l. outer x (λ q. omega (arith, list-behind, g, few)) ∙ inner x (λ q. omega (arith, l)) ∙ c .list x g l;
+      codes = λ x l. outer (stackAt + x) (λ q. omega (arith, list-behind, stack-behind, few)) ∙ by-test (eqb x i)
+          (λ q. let z : x ≡ i = eqb-true x i q in rw z (lay-one-same vs (stackAt + i) own-code 0 (omega (arith, names-behind, names-room, c .only .size, kept .room, few)) ∙ code-is i refl))
           (λ q. inner (stackAt + x) (λ z. eqb-false x i q (omega arith)) ∙ c .codes x (omega (arith, eqb-false x i q)));
       picks = λ x l. by-test (eqb x i)
-          (λ q. let z : x ≡ i = eqb-true x i q in rw z (lay-one-same mid (marksAt + i) own-mark 0 (omega (arith, a .marks, a .list, a .stack, a .names, c .only .size, kept .room, few, length-lay vs (stackAt + i) (own-code ∷ []))) ∙ mark-is))
-          (λ q. outer (marksAt + x) (λ z. eqb-false x i q (omega arith)) ∙ inner (marksAt + x) (λ z. omega (arith, a .marks, a .list, l, few)) ∙ c .picks x (omega (arith, eqb-false x i q)));
-      own = λ x g l. ap (λ (y : ℕ). eqb y 1) (outer (marksAt + x) (λ z. omega arith) ∙ inner (marksAt + x) (λ z. omega (arith, a .marks, a .list, l, few))) ∙ c .own x (omega arith) l;
-      over = λ x l. ap (λ (y : ℕ). eqb y 1) (outer (namesAt + x) (λ z. omega (arith, a .marks, a .list, a .stack, few)) ∙ inner (namesAt + x) (λ z. omega (arith, a .stack, few))) ∙ c .over x l;
+          (λ q. let z : x ≡ i = eqb-true x i q in rw z (lay-one-same mid (marksAt + i) own-mark 0 (omega (arith, list-behind, stack-behind, names-behind, names-room, c .only .size, kept .room, few, length-lay vs (stackAt + i) (own-code ∷ []))) ∙ mark-is))
+          (λ q. outer (marksAt + x) (λ z. eqb-false x i q (omega arith)) ∙ inner (marksAt + x) (λ z. omega (arith, list-behind, stack-behind, l, few)) ∙ c .picks x (omega (arith, eqb-false x i q)));
+      own = λ x g l. ap (λ (y : ℕ). eqb y 1) (outer (marksAt + x) (λ z. omega arith) ∙ inner (marksAt + x) (λ z. omega (arith, list-behind, stack-behind, l, few))) ∙ c .own x (omega arith) l;
+      over = λ x l. ap (λ (y : ℕ). eqb y 1) (outer (namesAt + x) (λ z. omega (arith, list-behind, stack-behind, names-behind, few)) ∙ inner (namesAt + x) (λ z. omega (arith, names-behind, few))) ∙ c .over x l;
     })
       where
-        a : Apart
-        a = apart
-
         few : count ≤ nodeCeiling
         few = kept .few
 
@@ -117,8 +113,8 @@ module _ (b : Block) (ws : List ℕ) (count i p : ℕ) (e : p ≡ node (treeIn b
   pub parent-none : i ≤ p → 0 ≡ parentCode b ws count i
   parent-none h = rw (← e, le-ltb p i h)
 
-  pub parent-some : p < i → getD ws (12288 + p) 0 ≡ parentCode b ws count i
-  parent-some h = rw (← e, lt-ltb p i h, stack-at)
+  pub parent-some : p < i → getD ws (stackAt + p) 0 ≡ parentCode b ws count i
+  parent-some h = rw (← e, lt-ltb p i h)
 
 pub null-yes : (l : List ℕ) → length l ≡ 0 → null l ≡ true
 null-yes [] e = refl

@@ -18,11 +18,10 @@ use Rattle.rules.specs.Tree.{Node, Tree, node, below, climb}
 use Rattle.rules.specs.Space.{tableWords, marksAt, listAt, namesAt}
 use Rattle.rules.specs.Laws.Tests.{by-test, eqb-sym, or-nothing, or-comm}
 use Rattle.rules.specs.Laws.Octets.{lay-one-same, lay-one-other}
-use Rattle.rules.specs.Laws.Kept.{Only, only-none, only-then, only-wide, only-one, only-tree, only-kept}
+use Rattle.rules.specs.Laws.Lists.{one-any, any-last}
+use Rattle.rules.specs.Laws.Kept.{Only, only-none, only-then, only-wide, only-one, only-tree, only-kept, marks-behind, list-behind, stack-behind, names-behind, names-room}
 use Rattle.rules.specs.Laws.Tabled.{treeIn, tree-length, node-in}
 use Rattle.picks.specs.Marks.{marked, listIn, Listed, Keeps, Unmarked, Noted}
-use Rattle.picks.specs.Codes.{one-any}
-use Rattle.picks.proofs.Places.{Apart, apart}
 
 -- ---- one word
 
@@ -79,7 +78,7 @@ climbing-first count ws j h = record { only = only-none ws; inside = h; marks = 
 
 module _ (count : ℕ) (ws : List ℕ) (k : Keeps ws count) where
   table-names : tableWords ≤ namesAt
-  table-names = omega (arith, apart .table, apart .marks, apart .list, apart .stack)
+  table-names = omega (arith, marks-behind, list-behind, stack-behind, names-behind)
 
   -- a parent's number is smaller, for any block
   pub parent-less : (b : Block) (vs : List ℕ) → Only namesAt workWords ws vs → (at : ℕ) → 0 < at → at < count → node (treeIn b vs count) at .parent < at
@@ -106,7 +105,7 @@ module _ (count : ℕ) (ws : List ℕ) (k : Keeps ws count) where
     pub climbing-more : 0 < left → 0 < at → (p : ℕ) → ((b : Block) → p ≡ node (treeIn b vs count) at .parent) → (us : List ℕ) → us ≡ lay vs (namesAt + p) (1 ∷ [])
         → Climbing count ws us j (left - 1) p
     climbing-more h g p q us e = record {
-      only = only-then (c .only) (rw e (only-one vs (namesAt + p) 1 (omega arith) (omega (arith, apart .names, less, few))));
+      only = only-then (c .only) (rw e (only-one vs (namesAt + p) 1 (omega arith) (omega (arith, names-room, less, few))));
       inside = omega (arith, less);
       marks = λ b x l.
           let t : Tree = treeIn b ws count in
@@ -126,20 +125,9 @@ module _ (count : ℕ) (ws : List ℕ) (k : Keeps ws count) where
         less = omega (arith, q (k .0), parent-less (k .0) vs (c .only) at g (c .inside))
 
         room : namesAt + p < length vs
-        room = omega (arith, apart .names, c .only .size, k .1 .room, less, c .inside, few)
+        room = omega (arith, names-room, c .only .size, k .1 .room, less, c .inside, few)
 
 -- ---- the nodes of the list
-
-any-last : (f : ℕ → Bool) (l : List ℕ) (j : ℕ) → any f (l ++ (j ∷ [])) ≡ (f j || any f l)
-unfolding any
-any-last f [] j = refl
-any-last f (x ∷ l) j = rw (any-last f l j) (or-shift (f x) (f j) (any f l))
-  where
-    or-shift : (a b c : Bool) → (a || (b || c)) ≡ (b || (a || c))
-    or-shift true true c = refl
-    or-shift true false c = refl
-    or-shift false true c = refl
-    or-shift false false c = refl
 
 list-more : (ws : List ℕ) (k : ℕ) → listAt + k < length ws → listIn ws (k + 1) ≡ listIn ws k ++ (getD ws (listAt + k) 0 ∷ [])
 list-more ws k h =
@@ -159,23 +147,23 @@ module _ (count : ℕ) (ws : List ℕ) (keeps : Keeps ws count) where
 
   module _ (vs : List ℕ) (k : ℕ) (n : Noted count ws vs (listIn ws k)) (small : k < nodeCeiling) (j : ℕ) (e : j ≡ getD vs (listAt + k) 0) (inside : getD ws (listAt + k) 0 < count) where
     same-node : j ≡ getD ws (listAt + k) 0
-    same-node = e ∙ n .list (listAt + k) (omega arith) (omega (arith, apart .list))
+    same-node = e ∙ n .list (listAt + k) (omega arith) (omega (arith, stack-behind))
 
     pub node-inside : j < count
     node-inside = omega (arith, same-node, inside)
 
     -- the mark of the node itself leaves the table
     pub noted-keeps : Keeps (lay vs (marksAt + j) (1 ∷ [])) count
-    noted-keeps = (keeps .0, only-kept (keeps .0) count (apart .table) (only-then (n .only) (only-one vs (marksAt + j) 1 (omega arith) (omega (arith, apart .marks, apart .list, apart .stack, apart .names, node-inside, keeps .1 .few)))) (keeps .1))
+    noted-keeps = (keeps .0, only-kept (keeps .0) count marks-behind (only-then (n .only) (only-one vs (marksAt + j) 1 (omega arith) (omega (arith, list-behind, stack-behind, names-behind, names-room, node-inside, keeps .1 .few)))) (keeps .1))
 
     more : (us : List ℕ) → Only namesAt workWords (lay vs (marksAt + j) (1 ∷ [])) us
         → ((b : Block) (x : ℕ) → x < count → marked us namesAt x ≡ (marked (lay vs (marksAt + j) (1 ∷ [])) namesAt x || below (treeIn b (lay vs (marksAt + j) (1 ∷ [])) count) x j))
         → Noted count ws us (listIn ws (k + 1))
     more us o m = record {
-      only = only-then first (only-wide (omega (arith, a .marks, a .list, a .stack)) (omega arith) o);
-      list = λ i g h. o .before i (omega (arith, a .stack, h)) ∙ lay-one-other vs (marksAt + j) 1 0 i (λ q. omega (arith, a .marks, g, node-inside, few)) ∙ n .list i g h;
+      only = only-then first (only-wide (omega (arith, list-behind, stack-behind, names-behind)) (omega arith) o);
+      list = λ i g h. o .before i (omega (arith, names-behind, h)) ∙ lay-one-other vs (marksAt + j) 1 0 i (λ q. omega (arith, list-behind, g, node-inside, few)) ∙ n .list i g h;
       own = λ x h.
-          ap (λ (y : ℕ). eqb y 1) (o .before (marksAt + x) (omega (arith, a .marks, a .list, a .stack, few)))
+          ap (λ (y : ℕ). eqb y 1) (o .before (marksAt + x) (omega (arith, list-behind, stack-behind, names-behind, few)))
           ∙ marked-set vs marksAt j room x
           ∙ ap (λ (d : Bool). eqb x j || d) (n .own x h ∙ one-any x (listIn ws k))
           ∙ sym (any-last (eqb x) (listIn ws k) j)
@@ -184,28 +172,25 @@ module _ (count : ℕ) (ws : List ℕ) (keeps : Keeps ws count) where
       over = λ b x h.
           let t : Tree = treeIn b ws count in
           m b x h
-          ∙ ap (λ (y : ℕ). eqb y 1 || below (treeIn b (lay vs (marksAt + j) (1 ∷ [])) count) x j) (lay-one-other vs (marksAt + j) 1 0 (namesAt + x) (λ q. omega (arith, a .marks, a .list, a .stack, node-inside, few)))
-          ∙ ap (λ (s : Tree). marked vs namesAt x || below s x j) (only-tree b count (a .table) few first)
+          ∙ ap (λ (y : ℕ). eqb y 1 || below (treeIn b (lay vs (marksAt + j) (1 ∷ [])) count) x j) (lay-one-other vs (marksAt + j) 1 0 (namesAt + x) (λ q. omega (arith, list-behind, stack-behind, names-behind, node-inside, few)))
+          ∙ ap (λ (s : Tree). marked vs namesAt x || below s x j) (only-tree b count marks-behind few first)
           ∙ ap (λ (d : Bool). d || below t x j) (n .over b x h)
           ∙ or-comm (any (below t x) (listIn ws k)) (below t x j)
           ∙ sym (any-last (below t x) (listIn ws k) j)
           ∙ ap (any (below t x)) (sym grown);
     }
       where
-        a : Apart
-        a = apart
-
         few : count ≤ nodeCeiling
         few = keeps .1 .few
 
         room : marksAt + j < length vs
-        room = omega (arith, a .marks, a .list, a .stack, a .names, n .only .size, keeps .1 .room, node-inside, few)
+        room = omega (arith, list-behind, stack-behind, names-behind, names-room, n .only .size, keeps .1 .room, node-inside, few)
 
         first : Only marksAt workWords ws (lay vs (marksAt + j) (1 ∷ []))
-        first = only-then (n .only) (only-one vs (marksAt + j) 1 (omega arith) (omega (arith, a .marks, a .list, a .stack, a .names, node-inside, few)))
+        first = only-then (n .only) (only-one vs (marksAt + j) 1 (omega arith) (omega (arith, list-behind, stack-behind, names-behind, names-room, node-inside, few)))
 
         grown : listIn ws (k + 1) ≡ listIn ws k ++ (j ∷ [])
-        grown = list-more ws k (omega (arith, a .list, a .stack, a .names, keeps .1 .room)) ∙ ap (λ (x : ℕ). listIn ws k ++ (x ∷ [])) (sym same-node)
+        grown = list-more ws k (omega (arith, stack-behind, names-behind, names-room, keeps .1 .room)) ∙ ap (λ (x : ℕ). listIn ws k ++ (x ∷ [])) (sym same-node)
 
     pub noted-more : (mid : List ℕ) → mid ≡ lay vs (marksAt + j) (1 ∷ []) → (us : List ℕ) → Only namesAt workWords mid us
         → ((b : Block) (x : ℕ) → x < count → marked us namesAt x ≡ (marked mid namesAt x || below (treeIn b mid count) x j))
@@ -221,22 +206,22 @@ module _ (count : ℕ) (ws : List ℕ) (keeps : Keeps ws count) (n : ℕ) (h : n
     (c : Only marksAt (marksAt + nodeCeiling) ws vs × ((i : ℕ) → i < nodeCeiling → getD vs (marksAt + i) 0 ≡ 0))
     (d : Only namesAt (namesAt + nodeCeiling) vs us × ((i : ℕ) → i < nodeCeiling → getD us (namesAt + i) 0 ≡ 0)) where
   cleared-list : Listed ws us
-  cleared-list i g l = d .0 .before i (omega (arith, apart .list, apart .stack, l)) ∙ c .0 .behind i (omega (arith, apart .marks, g))
+  cleared-list i g l = d .0 .before i (omega (arith, stack-behind, names-behind, l)) ∙ c .0 .behind i (omega (arith, list-behind, g))
 
   cleared-only : Only marksAt workWords ws us
   cleared-only =
-      only-then (only-wide (omega arith) (omega (arith, apart .marks, apart .list, apart .stack, apart .names)) (c .0))
-      (only-wide (omega (arith, apart .marks, apart .list, apart .stack)) (omega (arith, apart .names)) (d .0))
+      only-then (only-wide (omega arith) (omega (arith, list-behind, stack-behind, names-behind, names-room)) (c .0))
+      (only-wide (omega (arith, list-behind, stack-behind, names-behind)) (omega (arith, names-room)) (d .0))
 
   pub cleared-keeps : Keeps us count
-  cleared-keeps = (keeps .0, only-kept (keeps .0) count (apart .table) cleared-only (keeps .1))
+  cleared-keeps = (keeps .0, only-kept (keeps .0) count marks-behind cleared-only (keeps .1))
 
   pub cleared-small : ((k : ℕ) → k < n → getD ws (listAt + k) 0 < count) → (k : ℕ) → k < n → getD us (listAt + k) 0 < count
-  cleared-small f k g = omega (arith, f k g, cleared-list (listAt + k) (omega arith) (omega (arith, apart .list)))
+  cleared-small f k g = omega (arith, f k g, cleared-list (listAt + k) (omega arith) (omega (arith, stack-behind)))
 
   pub cleared-none-marked : Unmarked us
   cleared-none-marked = record {
-    own = λ i g. d .0 .before (marksAt + i) (omega (arith, apart .marks, apart .list, apart .stack)) ∙ c .1 i g;
+    own = λ i g. d .0 .before (marksAt + i) (omega (arith, list-behind, stack-behind, names-behind)) ∙ c .1 i g;
     over = d .1;
   }
 
@@ -244,7 +229,7 @@ module _ (count : ℕ) (ws : List ℕ) (keeps : Keeps ws count) (n : ℕ) (h : n
   same-list =
       ext-getD 0 (listIn us n) (listIn ws n) (simp (length-take, length-drop) (omega (arith, cleared-only .size)))
       (λ i l. let g : i < n = omega (arith, length-take n (drop listAt us)) in
-      getD-take n (drop listAt us) i 0 g ∙ getD-drop listAt us i 0 ∙ cleared-list (listAt + i) (omega arith) (omega (arith, apart .list))
+      getD-take n (drop listAt us) i 0 g ∙ getD-drop listAt us i 0 ∙ cleared-list (listAt + i) (omega arith) (omega (arith, stack-behind))
       ∙ sym (getD-take n (drop listAt ws) i 0 g ∙ getD-drop listAt ws i 0))
 
   pub cleared-noted : (zs : List ℕ) → Noted count us zs (listIn us n) → Noted count ws zs (listIn ws n)
@@ -252,5 +237,5 @@ module _ (count : ℕ) (ws : List ℕ) (keeps : Keeps ws count) (n : ℕ) (h : n
     only = only-then cleared-only (m .only);
     list = λ i g l. m .list i g l ∙ cleared-list i g l;
     own = λ x g. m .own x g ∙ ap (oneOf x) same-list;
-    over = λ b x g. m .over b x g ∙ ap₂ (λ (t : Tree) (l : List ℕ). any (below t x) l) (only-tree b count (apart .table) (keeps .1 .few) cleared-only) same-list;
+    over = λ b x g. m .over b x g ∙ ap₂ (λ (t : Tree) (l : List ℕ). any (below t x) l) (only-tree b count marks-behind (keeps .1 .few) cleared-only) same-list;
   }

@@ -2,20 +2,22 @@
 -- exclusion; at or below `/cpus` 3 where it is kept, and 4 where it is not.
 use mathlib.Core.Path.{_≡_, refl, sym, ap, _∙_}
 use mathlib.Core.Bool.{Bool, true, false, not, _&&_, _||_}
-use mathlib.Core.List.{List, [], _∷_}
+use mathlib.Core.List.{List}
 use Prim.Native.Nat.{ℕ, suc, _<_}
 use native.Mathlib.Omega.{arith}
 use lib.Dec.{eqb}
 use lib.ListN.{length}
 use borrow.Author.Tests.{eqb-true}
-use Rattle.rules.specs.Octets.{if_then_else_, ascii, same}
+use Rattle.rules.specs.Octets.{if_then_else_}
 use Rattle.rules.specs.Lists.{oneOf, any, keep}
-use Rattle.rules.specs.Tree.{Tree, node, below, climb, Frame, frame, numbers}
+use Rattle.rules.specs.Tree.{Tree, node, below, Frame, frame, numbers}
 use Rattle.rules.specs.Listing.{within}
 use Rattle.rules.specs.Copy.{Asked, near, null, isCpus, picked}
-use Rattle.rules.specs.Laws.Tests.{by-test, never, and-true, and-none, or-nothing}
-use Rattle.rules.specs.Laws.Lists.{any-same, mem-oneOf, not-oneOf, keep-of, of-keep, mem-numbers}
-use Rattle.rules.specs.Laws.Paths.{Formed, below-step}
+use Rattle.rules.specs.Laws.Tests.{and-none}
+use Rattle.rules.specs.Laws.Lists.{one-keep}
+use Rattle.rules.specs.Laws.Paths.{Formed}
+use Rattle.rules.specs.Laws.Listing.{within-root, within-step}
+use Rattle.rules.specs.Laws.Copy.{near-split, cpus-root, isCpus-up}
 
 abbrev pub code : (none inside strange out listed : Bool) → ℕ
 code none inside strange out listed =
@@ -78,45 +80,7 @@ next-code n false s x w false S X W h = by x w X W
     by false false false true = refl
     by false false false false = refl
 
-or-four : (a b c d : Bool) → (a || b || (c || d)) ≡ (a || c || (b || d))
-or-four true true c d = refl
-or-four true false true d = refl
-or-four true false false d = refl
-or-four false true true d = refl
-or-four false true false d = refl
-or-four false false true d = refl
-or-four false false false d = refl
-
-pub any-or : (f g : ℕ → Bool) (l : List ℕ) → any (λ (x : ℕ). f x || g x) l ≡ (any f l || any g l)
-unfolding any
-any-or f g [] = refl
-any-or f g (x ∷ xs) = rw (any-or f g xs) (or-four (f x) (g x) (any f xs) (any g xs))
-
-pub one-any : (x : ℕ) (l : List ℕ) → oneOf x l ≡ any (eqb x) l
-unfolding oneOf any
-one-any x [] = refl
-one-any x (y ∷ l) = rw (one-any x l)
-
--- a node below `size` is one of those that pass exactly if it passes
-pub one-keep : (p : ℕ → Bool) (f : Frame) (x : ℕ) → x < f .size → oneOf x (keep p (numbers f)) ≡ p x
-one-keep p f x h = by-test (p x)
-    (λ e. mem-oneOf (of-keep p (mem-numbers 0 (f .size) x (omega arith) (omega arith)) e) ∙ sym e)
-    (λ e. not-oneOf x (keep p (numbers f)) (λ m. never (p x) (keep-of p (numbers f) x m .1) e) ∙ sym e)
-
 module _ (t : Tree) (w : Formed t) where
-  pub within-root : (l : List ℕ) → within (frame t) l 0 ≡ oneOf 0 l
-  unfolding within climb
-  within-root l = any-same (λ (e : ℕ). eqb 0 e || below t e 0) (eqb 0) l (λ z m. or-nothing (eqb 0 z)) ∙ sym (one-any 0 l)
-
-  pub within-step : (l : List ℕ) (i : ℕ) → suc i < length t → within (frame t) l (suc i) ≡ (oneOf (suc i) l || within (frame t) l (node t (suc i) .parent))
-  unfolding within
-  within-step l i h =
-      let p : ℕ = node t (suc i) .parent in
-      any-same (λ (e : ℕ). eqb (suc i) e || below t e (suc i)) (λ (e : ℕ). eqb (suc i) e || (eqb p e || below t e p)) l
-      (λ z m. ap (λ (b : Bool). eqb (suc i) z || b) (below-step t w z i h))
-      ∙ any-or (eqb (suc i)) (λ (e : ℕ). eqb p e || below t e p) l
-      ∙ ap (λ (b : Bool). b || any (λ (e : ℕ). eqb p e || below t e p) l) (sym (one-any (suc i) l))
-
   module _ (strange : ℕ → Bool) (ids excl ls : List ℕ) (top : node t 0 .parent ≡ 0) (tame : (i : ℕ) → isCpus (frame t) (node t i .parent) ≡ false → strange i ≡ false) where
     abbrev cpus : List ℕ
     cpus = keep (isCpus (frame t)) (numbers (frame t))
@@ -124,25 +88,18 @@ module _ (t : Tree) (w : Formed t) where
     abbrev strangers : List ℕ
     strangers = keep strange (numbers (frame t))
 
-    -- the root is not `/cpus`
-    root-plain : isCpus (frame t) 0 ≡ false
-    unfolding isCpus
-    root-plain = refl
-
     root-tame : strange 0 ≡ false
-    root-tame = tame 0 (ap (isCpus (frame t)) top ∙ root-plain)
+    root-tame = tame 0 (ap (isCpus (frame t)) top ∙ cpus-root (frame t))
 
     cpus-tame : (i : ℕ) → isCpus (frame t) i ≡ true → (strange i ≡ false) × (node t i .parent ≡ 0)
-    unfolding isCpus
     cpus-tame i e =
-        let a = and-true (not (eqb i 0) && eqb (node t i .parent) 0) (same (node t i .name) (ascii "cpus")) e in
-        let z : node t i .parent ≡ 0 = eqb-true (node t i .parent) 0 (and-true (not (eqb i 0)) (eqb (node t i .parent) 0) (a .0) .1) in
-        (tame i (ap (isCpus (frame t)) z ∙ root-plain), z)
+        let z : node t i .parent ≡ 0 = eqb-true (node t i .parent) 0 (isCpus-up (frame t) i e) in
+        (tame i (ap (isCpus (frame t)) z ∙ cpus-root (frame t)), z)
 
     pub code-root : 0 < length t → next (null ids) (isCpus (frame t) 0) (strange 0) (oneOf 0 excl) (oneOf 0 ls) 0 ≡ codeOf (frame t) strange ids excl ls 0
     unfolding codeOf
     code-root h =
-        rw (within-root cpus, within-root strangers, within-root excl, within-root ls, one-keep (isCpus (frame t)) (frame t) 0 h, one-keep strange (frame t) 0 h, root-plain)
+        rw (within-root t cpus, within-root t strangers, within-root t excl, within-root t ls, one-keep (isCpus (frame t)) (frame t) 0 h, one-keep strange (frame t) 0 h, cpus-root (frame t))
 
     pub code-step : (i : ℕ) → suc i < length t
         → next (null ids) (isCpus (frame t) (suc i)) (strange (suc i)) (oneOf (suc i) excl) (oneOf (suc i) ls) (codeOf (frame t) strange ids excl ls (node t (suc i) .parent))
@@ -151,19 +108,15 @@ module _ (t : Tree) (w : Formed t) where
     code-step i h =
         let p : ℕ = node t (suc i) .parent in
         next-code (null ids) (isCpus (frame t) (suc i)) (strange (suc i)) (oneOf (suc i) excl) (oneOf (suc i) ls) (within (frame t) cpus p) (within (frame t) strangers p) (within (frame t) excl p) (within (frame t) ls p)
-        (λ e. let c = cpus-tame (suc i) e in (c .0, ap (within (frame t) strangers) (c .1) ∙ within-root strangers ∙ one-keep strange (frame t) 0 (omega arith) ∙ root-tame))
-        ∙ rw (within-step cpus i h, within-step strangers i h, within-step excl i h, within-step ls i h, one-keep (isCpus (frame t)) (frame t) (suc i) h, one-keep strange (frame t) (suc i) h)
-
-  near-split : (ls : List ℕ) (i : ℕ) → near (frame t) ls i ≡ (within (frame t) ls i || any (below t i) ls)
-  unfolding near within
-  near-split ls i = any-or (λ (j : ℕ). eqb i j || below t j i) (below t i) ls
+        (λ e. let c = cpus-tame (suc i) e in (c .0, ap (within (frame t) strangers) (c .1) ∙ within-root t strangers ∙ one-keep strange (frame t) 0 (omega arith) ∙ root-tame))
+        ∙ rw (within-step t w cpus i h, within-step t w strangers i h, within-step t w excl i h, within-step t w ls i h, one-keep (isCpus (frame t)) (frame t) (suc i) h, one-keep strange (frame t) (suc i) h)
 
 -- WHICH NODES ARE COPIED, by code and mark
-pub taken-picked : (q : Asked) (t : Tree) (w : Formed t) (strange : ℕ → Bool) (ls : List ℕ) (i : ℕ)
+pub taken-picked : (q : Asked) (t : Tree) (strange : ℕ → Bool) (ls : List ℕ) (i : ℕ)
     → taken (eqb i 0) (codeOf (frame t) strange (q .ids) (q .excl) ls i) (any (below t i) ls) ≡ picked q (frame t) strange ls i
 unfolding codeOf picked
-taken-picked q t w strange ls i =
-    by (eqb i 0) (null (q .ids)) (within (frame t) (keep (isCpus (frame t)) (numbers (frame t))) i) (within (frame t) (keep strange (numbers (frame t))) i) (within (frame t) (q .excl) i) (within (frame t) ls i) (any (below t i) ls) (near (frame t) ls i) (near-split t w ls i)
+taken-picked q t strange ls i =
+    by (eqb i 0) (null (q .ids)) (within (frame t) (keep (isCpus (frame t)) (numbers (frame t))) i) (within (frame t) (keep strange (numbers (frame t))) i) (within (frame t) (q .excl) i) (within (frame t) ls i) (any (below t i) ls) (near (frame t) ls i) (near-split t ls i)
   where
     by : (z n C S X W o a : Bool) → a ≡ (W || o) → taken z (code n C S X W) o ≡ (z || elim C [ true ↦ not n && not S | false ↦ a && not X ])
     by true n C S X W o a e = refl

@@ -11,7 +11,7 @@ use Rattle.derive.specs.declared.Answer.the-variants as answer
 use Rattle.derive.specs.declared.Refusal.{Refusal}
 use Rattle.program.specs.declared.Ran.{Ran}
 use Rattle.program.specs.declared.Ran.the-variants.{Derived, Refused}
-use Rattle.program.specs.Told.{numberOf, placeOf}
+use Rattle.told.specs.Told.{numberOf, placeOf}
 use Rattle.program.specs.Run.{textOf, ranOf}
 
 -- an answer's text is laid into a buffer

@@ -23,7 +23,7 @@ use Rattle.derive.specs.declared.Answer.{Answer}
 use Rattle.derive.specs.declared.Answer.the-variants as answer
 use Rattle.derive.specs.declared.Refusal.{Refusal}
 use Rattle.program.specs.declared.Ran.{Ran}
-use Rattle.program.specs.Told.{numberOf, placeOf, told}
+use Rattle.told.specs.Told.{numberOf, placeOf, told}
 use Rattle.program.specs.Run.{outcomeIn, printedIn, answered, guestLeft, textOf, ranOf, front}
 use Rattle.program.proofs.Plain.{listed-plain}
 

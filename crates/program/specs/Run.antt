@@ -20,7 +20,7 @@ use Rattle.derive.specs.declared.Answer.{Answer}
 use Rattle.derive.specs.declared.Answer.the-variants as answer
 use Rattle.program.specs.declared.Ran.{Ran}
 use Rattle.program.specs.declared.Ran.the-variants.{Derived, Refused}
-use Rattle.program.specs.Told.{numberOf, placeOf}
+use Rattle.told.specs.Told.{numberOf, placeOf}
 
 -- room for every text: a list, and two lines with a number each
 abbrev pub textRoom : ℕ

@@ -13,8 +13,6 @@ ghost use Rattle.rules.specs.Outcome.{passes};
 ghost use Rattle.rules.specs.Program.{inputJudged, hostJudged, printedRefusal};
 ghost use Rattle.program.specs.Run.{textRoom, printedFor, answered, guestLeft, textOf, ranOf};
 
-pub mod told;
-
 // Room for every text that is printed, as specs/Run.antt has it.
 pub const TEXT_ROOM: usize = PROGRAM_CEILING + 64;
 

@@ -18,17 +18,21 @@ use Rattle.rules.specs.Laws.Verdicts.{then-passes, passes-then}
 use Rattle.rules.specs.Laws.Blob.{Inside, header-inside}
 use Rattle.rules.specs.Laws.Reader.{startsOf, starts-length, table-fits, space-length, space-space, space-clear}
 use Rattle.rules.specs.Laws.Table.{rows-length, nodes-few, read-table}
-use Rattle.passes.specs.Passes.{blockOf}
+use Rattle.doubled.specs.Passes.{blockOf}
+use Rattle.header.specs.declared.Parts.{Parts}
+use Rattle.header.specs.declared.Refusal.{Refusal as HeaderRefusal}
+use Rattle.header.specs.Header.{Found, refused as headed}
+use Rattle.shape.specs.declared.Refusal.{Refusal as ShapeRefusal}
+use Rattle.shape.specs.declared.Answer.{Answer as ShapeAnswer}
+use Rattle.shape.specs.declared.Answer.the-variants as walk
+use Rattle.shape.specs.Answers.{refused as shaped, meaning as walkMeaning}
+use Rattle.shape.specs.Shape.{Leaves as WalkLeaves, Shaped}
 use Rattle.reader.specs.declared.Refusal.{Refusal}
 use Rattle.reader.specs.declared.Refusal.the-variants.{NoSpace, Short, Magic, Total, Version, Layout, Shape, Name, Deep, Many, Doubled, Cells, Shared}
 use Rattle.reader.specs.declared.Answer.{Answer}
 use Rattle.reader.specs.declared.Answer.the-variants.{Nodes, Refused}
-use Rattle.reader.specs.declared.header.Parts.{Parts}
 use Rattle.reader.specs.Answers.{refused, meaning}
-use Rattle.reader.specs.Header.{Found}
-use Rattle.reader.specs.Shape.{Leaves, Shaped}
-use Rattle.reader.specs.Whole.{treeOf, Tabled, Paired, Judged}
-use Rattle.reader.proofs.Steps.{refused-then}
+use Rattle.reader.specs.Whole.{treeOf, Leaves, Tabled, Paired, Judged}
 
 -- ---- refusals
 
@@ -86,6 +90,22 @@ no-table (Doubled at) t = refl
 no-table (Cells at) t = refl
 no-table (Shared at) t = refl
 
+-- a refusal comes first
+refused-then : {A : Type 0} (f : Refusal) (next : Outcome A) → (refused f then next) ≡ refused f
+refused-then NoSpace next = refl
+refused-then Short next = refl
+refused-then Magic next = refl
+refused-then Total next = refl
+refused-then Version next = refl
+refused-then Layout next = refl
+refused-then (Shape at) next = refl
+refused-then (Name at) next = refl
+refused-then (Deep at) next = refl
+refused-then (Many at) next = refl
+refused-then (Doubled at) next = refl
+refused-then (Cells at) next = refl
+refused-then (Shared at) next = refl
+
 then-assoc : {A : Type 0} (v o : Verdict) (x : Outcome A) → ((v then o) then x) ≡ (v then (o then x))
 then-assoc (gives u) o x = refl
 then-assoc (refuses number place) o x = refl
@@ -117,9 +137,9 @@ module _ {b : Bytes} {p : Parts} (h : Found b p) where
 
 -- ---- the walk, and then the pairs
 
-module _ {block : Block} {old new : List ℕ} {answer : Answer} {count : ℕ} (s : Shaped block old new answer) (e : answer ≡ Nodes count) (room : workWords ≤ length old) where
+module _ {block : Block} {old new : List ℕ} {answer : ShapeAnswer} {count : ℕ} (s : Shaped block old new answer) (e : answer ≡ walk.Nodes count) (room : workWords ≤ length old) where
   passed : (shapeJudged block ≡ passes) × (gives (length (treeOf block)) ≡ gives count)
-  passed = then-passes (shapeJudged block) (gives (length (treeOf block))) count (sym (s .judged) ∙ ap meaning e)
+  passed = then-passes (shapeJudged block) (gives (length (treeOf block))) count (sym (s .judged) ∙ ap walkMeaning e)
 
   few-starts : length (startsOf (treeOf block)) ≤ workWords
   few-starts = omega (arith, starts-length (treeOf block), nodes-few block (passed .0), table-fits)
@@ -128,7 +148,7 @@ module _ {block : Block} {old new : List ℕ} {answer : Answer} {count : ℕ} (s
   few-rows = omega (arith, rows-length (treeOf block), nodes-few block (passed .0), table-fits)
 
   walked : new ≡ spaceOf (startsOf (treeOf block)) old
-  walked = subst (λ (a : Answer). Leaves a (startsOf (treeOf block)) old new) e (s .table)
+  walked = subst (λ (a : ShapeAnswer). WalkLeaves a (startsOf (treeOf block)) old new) e (s .table)
 
   pub tabled : Tabled block new count
   tabled = record {
@@ -149,18 +169,17 @@ module _ {block : Block} {old new : List ℕ} {answer : Answer} {count : ℕ} (s
   }
 
 -- the walk refuses
-pub shape-refused : {block : Block} {old new : List ℕ} {answer : Answer} {f : Refusal} → answer ≡ Refused f
-    → Shaped block old new answer → Judged block old new answer
-shape-refused {block} {old} {new} {answer} {f} e s =
-    let v : shapeJudged block ≡ refused f = then-refused f (shapeJudged block) (length (treeOf block)) (ap meaning (sym e) ∙ s .judged) in
-    subst (Judged block old new) (sym e)
-    (record {
+pub shape-refused : {block : Block} {old new : List ℕ} {answer : ShapeAnswer} {g : ShapeRefusal} (f : Refusal) → refused {A = ℕ} f ≡ shaped {A = ℕ} g → answer ≡ walk.Refused g
+    → Shaped block old new answer → Judged block old new (Refused f)
+shape-refused {block} {old} {new} {answer} {g} f q e s =
+    let v : shapeJudged block ≡ refused f = then-refused f (shapeJudged block) (length (treeOf block)) (q ∙ ap walkMeaning (sym e) ∙ s .judged) in
+    record {
       judged =
           sym
           (ap (λ (o : Verdict). o then doubledJudged (treeOf block) then wordsJudged (treeOf block) then sharedJudged (treeOf block) then gives (length (treeOf block))) v
           ∙ refused-then f (doubledJudged (treeOf block) then wordsJudged (treeOf block) then sharedJudged (treeOf block) then gives (length (treeOf block))));
-      table = subst (λ (a : Answer). Leaves a (startsOf (treeOf block)) old new) e (s .table);
-    })
+      table = subst (λ (a : ShapeAnswer). WalkLeaves a (startsOf (treeOf block)) old new) e (s .table);
+    }
 
 -- ---- the whole
 
@@ -188,11 +207,12 @@ module _ (b : Bytes) (work : List ℕ) {cleared : List ℕ} (room : workWords �
   clear-again = is-clear ∙ sym (ap (spaceOf []) is-clear ∙ space-space [] [] work (omega arith) (omega arith))
 
   -- the header refuses
-  pub head-refused : (f : Refusal) → headerJudged b ≡ refused f → (refused f ≡ read b (length work)) × (cleared ≡ readWork b work)
+  pub head-refused : (f : Refusal) (g : HeaderRefusal) → refused {A = Unit {0}} f ≡ headed {A = Unit {0}} g → headerJudged b ≡ headed g
+      → (refused f ≡ read b (length work)) × (cleared ≡ readWork b work)
   unfolding blobJudged
-  head-refused f e =
+  head-refused f g q e =
       let v : blobJudged b ≡ refused f =
-      ap (λ (o : Verdict). o then shapeJudged (blockIn b) then doubledJudged (treeRead b) then wordsJudged (treeRead b) then sharedJudged (treeRead b)) e
+      ap (λ (o : Verdict). o then shapeJudged (blockIn b) then doubledJudged (treeRead b) then wordsJudged (treeRead b) then sharedJudged (treeRead b)) (e ∙ sym q)
       ∙ refused-then f (shapeJudged (blockIn b) then doubledJudged (treeRead b) then wordsJudged (treeRead b) then sharedJudged (treeRead b)) in (
         sym (read-is b (length work) room ∙ ap (λ (o : Verdict). o then gives (length (treeRead b))) v ∙ refused-then f (gives (length (treeRead b)))),
         is-clear ∙ sym (work-is b work room ∙ ap (λ (o : Verdict). spaceOf (tableOf o (treeRead b)) work) v ∙ ap (λ (ws : List ℕ). spaceOf ws work) (no-table f (treeRead b))),

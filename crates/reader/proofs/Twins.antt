@@ -12,10 +12,10 @@ use Rattle.rules.specs.Tree.{Node, Tree, node, doubledJudged, wordsJudged, shar
 use Rattle.rules.specs.Reader.{rowsOf, spaceOf}
 use Rattle.rules.specs.Laws.Reader.{startOf, startsOf, starts-length, table-fits, space-get}
 use Rattle.rules.specs.Laws.Table.{nodes-few}
-use Rattle.passes.specs.declared.Found.{Found}
-use Rattle.passes.specs.declared.Found.the-variants.{Nothing, At}
-use Rattle.passes.specs.Passes.{verdict}
-use Rattle.passes.specs.Siblings.{Table}
+use Rattle.doubled.specs.declared.Found.{Found}
+use Rattle.doubled.specs.declared.Found.the-variants.{Nothing, At}
+use Rattle.doubled.specs.Passes.{verdict}
+use Rattle.doubled.specs.Siblings.{Table}
 use Rattle.passes.specs.Rows.{rowsFrom}
 use Rattle.reader.specs.declared.Refusal.the-variants.{Doubled, Cells, Shared}
 use Rattle.reader.specs.declared.Answer.the-variants.{Nodes, Refused}

@@ -1,6 +1,6 @@
 -- What the parts of the reader promise of the whole blob, and of the table in the work space.
 use mathlib.Core.Path.{_≡_}
-use mathlib.Core.List.{List}
+use mathlib.Core.List.{List, []}
 use Prim.Native.Nat.{ℕ, _≤_}
 use lib.ListN.{length}
 use Rattle.rules.specs.Ceilings.{workWords}
@@ -11,11 +11,16 @@ use Rattle.rules.specs.Tree.{Tree, nodesOf, doubledJudged, wordsJudged, sharedJ
 use Rattle.rules.specs.Reader.{rowsOf, spaceOf}
 use Rattle.rules.specs.Laws.Reader.{startsOf}
 use Rattle.reader.specs.declared.Answer.{Answer}
+use Rattle.reader.specs.declared.Answer.the-variants.{Nodes, Refused}
 use Rattle.reader.specs.Answers.{meaning}
-use Rattle.reader.specs.Shape.{Leaves}
 
 abbrev pub treeOf : Block → Tree
 treeOf b = nodesOf (eventsIn b)
+
+-- What is left in the work space: the words, or nothing that matters. Beyond the work space all stays.
+abbrev pub Leaves : Answer → (words old new : List ℕ) → Type 0
+Leaves (Nodes count) words old new = new ≡ spaceOf words old
+Leaves (Refused refusal) words old new = spaceOf [] new ≡ spaceOf [] old
 
 -- the shape has passed, and the work space holds what the walk left
 pub record Tabled (b : Block) (work : List ℕ) (count : ℕ) : Type 0 where

@@ -1,21 +1,21 @@
 // Reads a devicetree blob: judges its header, its shape, its names and its phandles, and leaves a table of its nodes in the
-// work space that the caller lends. Nothing is copied, and nothing but that work space is written.
-mod header;
+// work space that the caller lends. Nothing is copied, and nothing but that work space is written. The steps are crates of their
+// own; here they are joined.
 mod pairs;
-mod shape;
 
 use header::Head;
 use header::Parts;
 use rules::WORK_WORDS;
 ghost use mathlib.Core.Path.{_≡_};
 ghost use mathlib.Core.List.{[]};
-ghost use Prim.Native.Nat.{_≤_};
+ghost use Prim.Native.Nat.{ℕ, _≤_};
 ghost use lib.ListN.{length};
 ghost use Rattle.rules.specs.Ceilings.{workWords};
 ghost use Rattle.rules.specs.Blob.{blockIn};
 ghost use Rattle.rules.specs.Reader.{read, readWork, spaceOf};
-ghost use Rattle.reader.specs.Answers.{meaning};
-ghost use Rattle.reader.specs.Header.{Found};
+ghost use Rattle.header.specs.Header.{Found, refused as headed};
+ghost use Rattle.shape.specs.Answers.{refused as shaped};
+ghost use Rattle.reader.specs.Answers.{refused, meaning};
 ghost use Rattle.reader.specs.Whole.{Judged};
 
 // Why a blob is refused, in the order in which it is judged. `at` is the blob offset of the first offending token.
@@ -54,6 +54,31 @@ pub enum Answer {
     Refused(Refusal),
 }
 
+// The header's refusal as the reader's.
+fn by_header(refusal: header::Refusal) -> Refusal
+    ensures { λ r. ⌜ refused {A = Unit {0}} r ≡ headed {A = Unit {0}} refusal ⌝ }
+{
+    match refusal {
+        header::Refusal::Short => Refusal::Short,
+        header::Refusal::Magic => Refusal::Magic,
+        header::Refusal::Total => Refusal::Total,
+        header::Refusal::Version => Refusal::Version,
+        header::Refusal::Layout => Refusal::Layout,
+    }
+}
+
+// The walk's refusal as the reader's.
+fn by_shape(refusal: shape::Refusal) -> Refusal
+    ensures { λ r. ⌜ refused {A = ℕ} r ≡ shaped {A = ℕ} refusal ⌝ }
+{
+    match refusal {
+        shape::Refusal::Shape { at } => Refusal::Shape { at },
+        shape::Refusal::Name { at } => Refusal::Name { at },
+        shape::Refusal::Deep { at } => Refusal::Deep { at },
+        shape::Refusal::Many { at } => Refusal::Many { at },
+    }
+}
+
 // Judges the blocks of a blob whose header passes. Each is handed on as its own part, so that nothing else can be read through
 // it. The work space is zero before; after a refusal what it holds is of no use.
 fn blocks(blob: &[u8], parts: Parts, work: &mut [u32]) -> Answer
@@ -68,11 +93,10 @@ fn blocks(blob: &[u8], parts: Parts, work: &mut [u32]) -> Answer
     let to = from + parts.strings_size;
     let structure = &blob[place..end];
     let strings = &blob[from..to];
-    let shaped = shape::judge(structure, strings, place, work);
-    let Answer::Nodes(count) = shaped else {
-        return shaped;
-    };
-    pairs::judge(structure, strings, place, count, work)
+    match shape::judge(structure, strings, place, work) {
+        shape::Answer::Refused(refusal) => Answer::Refused(by_shape(refusal)),
+        shape::Answer::Nodes(count) => pairs::judge(structure, strings, place, count, work),
+    }
 }
 
 // Reads the blob that begins with the bytes lent, and leaves a table of its nodes in the work space, four words a node in blob
@@ -92,7 +116,7 @@ pub fn read(blob: &[u8], work: &mut [u32]) -> Answer
     }
     octets::clear(work, WORK_WORDS);
     match header::judge(blob) {
-        Head::Bad(refusal) => Answer::Refused(refusal),
+        Head::Bad(refusal) => Answer::Refused(by_header(refusal)),
         Head::Good(parts) => {
             let answer = blocks(blob, parts, work);
             let Answer::Nodes(count) = answer else {

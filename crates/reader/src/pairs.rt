@@ -2,12 +2,12 @@
 // structure block whose shape has passed.
 use crate::Answer;
 use crate::Refusal;
-use passes::Found;
+use doubled::Found;
 ghost use mathlib.Core.Path.{_≡_};
 ghost use Prim.Native.Nat.{_+_, _≤_};
 ghost use lib.ListN.{length};
 ghost use Rattle.rules.specs.Ceilings.{blobCeiling, workWords};
-ghost use Rattle.passes.specs.Passes.{blockOf};
+ghost use Rattle.doubled.specs.Passes.{blockOf};
 ghost use Rattle.reader.specs.Whole.{Tabled, Paired};
 
 // Judges refusals 10 to 12 of the structure block that stands at `place` of the blob and has `count` nodes: that count, or the
@@ -23,7 +23,7 @@ pub fn judge(
     requires { ⌜ Tabled (blockOf (now structure) (now strings) place) (now work) count ⌝ }
     ensures { λ r. ⌜ Paired (blockOf (now (structure .entry)) (now (strings .entry)) place) (now (work .entry)) (now (work .exit)) r ⌝ }
 {
-    if let Found::At(at) = passes::doubled::doubled(structure, strings, place, work) {
+    if let Found::At(at) = doubled::doubled(structure, strings, place, work) {
         return Answer::Refused(Refusal::Doubled { at: place + at });
     }
     if let Found::At(at) = passes::cells::cells(structure, strings) {

@@ -1,29 +1,28 @@
 -- The scan word by word: its turns, without their fuel.
 use mathlib.Core.Path.{_≡_, refl, sym, ap, _∙_}
-use mathlib.Core.Bool.{Bool, true, false}
-use mathlib.Core.List.{List, [], _∷_, map}
+use mathlib.Core.Bool.{true}
+use mathlib.Core.List.{List, [], _∷_}
 use mathlib.Core.Option.{Option, none, some}
 use Prim.Native.Nat.{ℕ, zero, suc, _+_, _*_, _/_, _%_, _≤_, _<_}
 use Prim.Native.String.{String}
 use native.Mathlib.Omega.{arith}
 use lib.Dec.{eqb, ltb}
-use lib.ListN.{length, length-map}
+use lib.ListN.{length}
 use borrow.Author.Tests.{lt-ltb, le-ltb, ltb-true, eq-eqb, ne-eqb}
 use Rattle.rules.specs.Ceilings.{workWords}
 use Rattle.rules.specs.Octets.{Bytes, if_then_else_, wordAt}
 use Rattle.rules.specs.Outcome.{passes}
 use Rattle.rules.specs.Blob.{Block, blockIn}
 use Rattle.rules.specs.Events.{Property}
-use Rattle.rules.specs.Tree.{Node, Tree, node, numbersFrom}
+use Rattle.rules.specs.Tree.{Node, Tree, node}
 use Rattle.rules.specs.Reader.{treeRead, blobJudged, readWork}
 use Rattle.rules.specs.References.{Rules, Reference, lookup, cellCount, scanFrom, scan, referencesOf}
 use Rattle.rules.specs.Laws.Tests.{by-test}
-use Rattle.rules.specs.Laws.Lists.{length-numbers}
-use Rattle.rules.specs.Laws.References.{by-option, references-yes, scan-end, scan-unknown, scan-known, scan-short, placeOf-lt}
-use Rattle.rules.specs.Laws.Tabled.{treeIn, nodeIn, node-in, phandlesFrom, phandleIn, lookIn, propsAt, beginOf, countNamed, count-named}
+use Rattle.rules.specs.Laws.References.{by-option, references-yes, scan-end, scan-unknown, scan-known, scan-short}
+use Rattle.rules.specs.Laws.Tabled.{treeIn, node-in, lookIn, propsAt, beginOf, countNamed, count-named, look-small}
 use Rattle.rules.specs.Laws.TabledRead.{tree-read, look-read}
 use Rattle.references.specs.declared.scan.Next.{Next}
-use Rattle.references.specs.declared.scan.Next.the-variants.{Reference as Refers, End}
+use Rattle.references.specs.declared.scan.Next.the-variants.{End}
 use Rattle.references.specs.Scan.{scanAt, refersAt, told, Ahead, scanIn, Scanned}
 
 module _ (look : ℕ → Option ℕ) (cells : ℕ → ℕ) (v : Bytes) (n : ℕ) where
@@ -85,12 +84,6 @@ refers-ahead j n i m c h = by-test (ltb (i + c) n)
 
 -- ---- over the node table
 
--- what is found is a row
-found-lt : (ws : List ℕ) (count w m : ℕ) → lookIn ws count w ≡ some m → m < count
-unfolding lookIn phandlesFrom
-found-lt ws count w m e =
-    omega (arith, placeOf-lt w (phandlesFrom ws 0 count) m e, length-map (numbersFrom 0 count) (phandleIn ws), length-numbers 0 count)
-
 module _ (b : Block) (ws : List ℕ) (count : ℕ) (o : Option String) (v : Bytes) where
   abbrev cellsIn : ℕ → ℕ
   cellsIn m = countNamed o (node (treeIn b ws count) m .props)
@@ -108,7 +101,7 @@ module _ (b : Block) (ws : List ℕ) (count : ℕ) (o : Option String) (v : Byte
     pub scanned-here : (l : i < length v / 4) → j ≤ i → (m c : ℕ) → lookIn ws count (wordAt v (4 * i)) ≡ some m → c ≡ countNamed o (propsAt b (beginOf (b .place) ws m))
         → (r : Next) → r ≡ refersAt (length v / 4) i m c → Scanned b ws count o v j r
     scanned-here l k m c f g r q =
-        let d : c ≡ cellsIn m = g ∙ ap (λ (x : Node). countNamed o (x .props)) (sym (node-in b ws count m (found-lt ws count (wordAt v (4 * i)) m f))) in
+        let d : c ≡ cellsIn m = g ∙ ap (λ (x : Node). countNamed o (x .props)) (sym (node-in b ws count m (look-small ws count (wordAt v (4 * i)) m f))) in
         let s : r ≡ refersAt (length v / 4) i m (cellsIn m) = q ∙ ap (refersAt (length v / 4) i m) d in
         rw s (record {
           list = e ∙ scan-refers (lookIn ws count) cellsIn v h i l m f;

@@ -1,13 +1,12 @@
 -- A search over the rows of the node table: a row is a hit, or it is not.
 use mathlib.Core.Path.{_≡_}
-use mathlib.Core.Logic.{inl, inr}
-use mathlib.Core.Bool.{Bool, true, false, _&&_}
+use mathlib.Core.Bool.{true, false, _&&_}
 use mathlib.Core.List.{List}
-use mathlib.Core.Option.{none, some}
+use mathlib.Core.Option.{some}
 use Prim.Native.Nat.{ℕ, _+_, _<_}
 use lib.Dec.{eqb}
 use borrow.Author.Tests.{eqb-true, eqb-false}
-use Rattle.rules.specs.Laws.Tests.{by-test, and-true, and-false}
+use Rattle.rules.specs.Laws.Tests.{by-test, and-true}
 use Rattle.rules.specs.Laws.Tabled.{cell, lookFrom, look-bare, look-other, look-here}
 
 module _ (ws : List ℕ) (count w i : ℕ) (h : i < count) where

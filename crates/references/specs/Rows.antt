@@ -1,5 +1,5 @@
 -- How the rule table's answer is read.
-use mathlib.Core.Bool.{Bool, true, false}
+use mathlib.Core.Bool.{Bool, false}
 use mathlib.Core.Option.{Option, none, some}
 use Prim.Native.String.{String}
 use Rattle.rules.specs.Octets.{Bytes, ascii, same}

@@ -1,6 +1,5 @@
 -- The scan from any word on, and how its answer is read.
 use mathlib.Core.Path.{_≡_}
-use mathlib.Core.Bool.{Bool}
 use mathlib.Core.List.{List, [], _∷_}
 use mathlib.Core.Option.{Option}
 use Prim.Native.Nat.{ℕ, _+_, _/_, _%_, _≤_}

@@ -2,10 +2,10 @@
 -- theorem proves each. Code meets them through its contracts, which are equations with these definitions.
 use mathlib.Core.Path.{_≡_}
 use mathlib.Core.Logic.{_↔_}
-use mathlib.Core.Bool.{true, false}
+use mathlib.Core.Bool.{Bool, true, false}
 use mathlib.Core.List.{List, [], _∷_, map}
 use mathlib.Core.Option.{some}
-use Prim.Native.Nat.{ℕ, _^_, _≤_, _<_}
+use Prim.Native.Nat.{ℕ, zero, suc, _^_, _≤_, _<_}
 use Prim.Native.String.{String}
 use lib.ListN.{length, getD, take, drop}
 use Rattle.rules.specs.Ceilings.{blobCeiling, workWords, reservationCeiling}
@@ -34,16 +34,20 @@ OutputsKept =
     → derive r host q words (length list) (length guest) ≡ refuses number place
     → (deriveList r host q words (length guest) list ≡ list) × (deriveGuest r host q words (length list) guest ≡ guest)
 
--- "work space ends as 01 says": its first words are zero, and the rest is as it was
+-- "work space ends as 01 says": untouched by 40, else its first words are zero, and the rest is as it was
 abbrev pub SpaceCleared : Type 0
 SpaceCleared =
-    (work : List ℕ) → workWords ≤ length work → (take workWords (deriveWork work) ≡ zeros workWords) × (drop workWords (deriveWork work) ≡ drop workWords work)
+    (work : List ℕ)
+    → (length work < workWords → deriveWork work ≡ work)
+    × (workWords ≤ length work → (take workWords (deriveWork work) ≡ zeros workWords) × (drop workWords (deriveWork work) ≡ drop workWords work))
 
--- after a refusal 1 to 12 the reader leaves the same
+-- after a refusal 40 or 1 to 12 the reader leaves the same
 abbrev pub TableCleared : Type 0
 TableCleared =
-    (blob : Bytes) (work : List ℕ) (number place : ℕ) → workWords ≤ length work → blobJudged blob ≡ refuses number place
-    → (take workWords (readWork blob work) ≡ zeros workWords) × (drop workWords (readWork blob work) ≡ drop workWords work)
+    (blob : Bytes) (work : List ℕ)
+    → (length work < workWords → readWork blob work ≡ work)
+    × ((number place : ℕ) → workWords ≤ length work → blobJudged blob ≡ refuses number place
+    → (take workWords (readWork blob work) ≡ zeros workWords) × (drop workWords (readWork blob work) ≡ drop workWords work))
 
 -- ---- 2. The right answer.
 
@@ -113,7 +117,13 @@ pub record Plain : Type 0 where
 abbrev pub plain : Node → Plain
 plain n = record { name = n .name; props = map (λ (p : Property). (p .name, p .value)) (n .props) }
 
--- "the guest tree is 01's filtered copy": read, it has the copied nodes' names, properties, values and order
+-- the number of a node's copy: how many nodes before it are copied
+unfoldable pub rank : (ℕ → Bool) → ℕ → ℕ
+rank k zero = 0
+rank k (suc n) = elim (k n) [ true ↦ suc (rank k n) | false ↦ rank k n ]
+
+-- "the guest tree is 01's filtered copy": read, it has the copied nodes' names, properties, values and order, and below each copy the
+-- copies of what is below its node
 abbrev pub GuestIsCopy : Type 0
 GuestIsCopy =
     (r : Rules) (host : Bytes) (q : Request) → Granted host q
@@ -122,6 +132,9 @@ GuestIsCopy =
     × (map plain (treeRead (guestOf r host q))
     ≡ map (λ (i : ℕ). plain (node (treeRead host) i))
     (keep (copied r (asked (frame (treeRead host)) q) (treeRead host)) (numbers (frame (treeRead host)))))
+    × (map (λ (n : Node). n .parent) (treeRead (guestOf r host q))
+    ≡ map (λ (i : ℕ). rank (copied r (asked (frame (treeRead host)) q) (treeRead host)) (node (treeRead host) i .parent))
+    (keep (copied r (asked (frame (treeRead host)) q) (treeRead host)) (numbers (frame (treeRead host)))))
 
 -- "byte for byte, what the writer leaves when started with no reservations and boot CPU 0, given these nodes and properties in this
 -- order, and finished"
@@ -129,7 +142,7 @@ abbrev pub GuestIsWritten : Type 0
 GuestIsWritten =
     (r : Rules) (host : Bytes) (q : Request) (lent strings : Bytes) → Granted host q
     → length (guestOf r host q) ≤ room (length lent)
-    → length (guestOf r host q) ≤ room (length strings)
+    → length (stringsAfter (guestEvents r (asked (frame (treeRead host)) q) (treeRead host) (eventsRead host))) ≤ room (length strings)
     → written [] lent strings [] (spelled 0 (guestEvents r (asked (frame (treeRead host)) q) (treeRead host) (eventsRead host)))
     ≡ gives (guestOf r host q)
 

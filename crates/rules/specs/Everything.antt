@@ -15,6 +15,7 @@ use Rattle.rules.specs.References
 use Rattle.rules.specs.Listing
 use Rattle.rules.specs.Copy
 use Rattle.rules.specs.Derivation
+use Rattle.rules.specs.Device
 use Rattle.rules.specs.Program
 use Rattle.rules.specs.Withheld
 
@@ -82,6 +83,10 @@ unfoldable pub inDerivation : Unit {0}
 unfolding Derivation.givenFrom Derivation.given Derivation.pathAtFault Derivation.pathsJudged Derivation.listsJudged Derivation.nodeAmong Derivation.repeats Derivation.configuredFrom Derivation.configuredJudged Derivation.nodesNamed Derivation.asked Derivation.cpusFrom Derivation.cpusJudged Derivation.met Derivation.idsFrom Derivation.requestJudged Derivation.listedPaths Derivation.listOf Derivation.guestOf Derivation.roomJudged Derivation.derive Derivation.deriveList Derivation.deriveGuest Derivation.deriveWork
 inDerivation = tt
 
+unfoldable pub inDevice : Unit {0}
+unfolding Device.find Device.findList
+inDevice = tt
+
 unfoldable pub inProgram : Unit {0}
 unfolding Program.lineEnd Program.linesFrom Program.linesOf Program.decimalAfter Program.decimalSaid Program.lineSaid Program.linesJudged Program.inputJudged Program.configuredIn Program.excludedIn Program.idsIn Program.requestIn Program.digitsFrom Program.decimal Program.printedPaths Program.printedAnswer Program.printedRefusal Program.hostJudged Program.programOutcome Program.program
 inProgram = tt
@@ -91,5 +96,5 @@ unfolding Withheld.hidden Withheld.inValue Withheld.hiddenIn Withheld.withheld
 inWithheld = tt
 
 unfoldable pub everything : Unit {0}
-unfolding inCeilings inOctets inLists inNames inReservations inWriter inWritten inBlob inTokens inEvents inTree inReader inReferences inListing inCopy inDerivation inProgram inWithheld
+unfolding inCeilings inOctets inLists inNames inReservations inWriter inWritten inBlob inTokens inEvents inTree inReader inReferences inListing inCopy inDerivation inDevice inProgram inWithheld
 everything = tt

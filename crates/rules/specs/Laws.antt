@@ -15,6 +15,7 @@ pub mod References
 pub mod Paths
 pub mod Work
 pub mod Listing
+pub mod Starts
 pub mod Shape
 pub mod Passes
 pub mod Formed
@@ -39,3 +40,5 @@ pub mod Table
 pub mod Tabled
 pub mod TabledRead
 pub mod Kept
+pub mod Host
+pub mod Device

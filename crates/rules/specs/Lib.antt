@@ -17,6 +17,7 @@ pub mod References
 pub mod Listing
 pub mod Copy
 pub mod Derivation
+pub mod Device
 pub mod Space
 pub mod Program
 pub mod Withheld
@@ -24,5 +25,6 @@ pub mod Demands
 pub mod Everything
 pub mod Bench
 pub mod Readings
--- what follows from them, proved: nothing in it needs to be believed
+-- what follows from them, proved; and, for contracts over lent words, how a node table is read as a tree (Tabled), and what a work
+-- space keeps of it (Kept): these two a reader of such a contract looks up, nothing else of it needs to be believed
 pub mod Laws

@@ -10,14 +10,15 @@ use Rattle.rules.specs.Everything.{everything}
 use Rattle.rules.specs.Octets.{Bytes, if_then_else_, be32, be64, words32, zeros, put, ascii, closed}
 use Rattle.rules.specs.Outcome.{Outcome, gives, refuses, Verdict}
 use Rattle.rules.specs.Reservations.{Entry, overlapping}
-use Rattle.rules.specs.Writer.{State, beginBytes, endBytes, propertyBytes, headerBytes, nameOffset, start, beginNode, phandle, finish}
+use Rattle.rules.specs.Writer.{State, beginBytes, endBytes, propertyBytes, headerBytes, nameOffset, start, beginNode, finish}
 use Rattle.rules.specs.Written.{Call, begin, end, bytes, null, string, stringList, phandleCall, written, blobOf}
 use Rattle.rules.specs.Events.{Property, Event, has, closes, Step, stop, done, go, opening}
 use Rattle.rules.specs.Tree.{Node, Tree, nodesOf}
 use Rattle.rules.specs.Tree
 use Rattle.rules.specs.Reader.{read, treeRead, rowsOf}
 use Rattle.rules.specs.References.{edition1}
-use Rattle.rules.specs.Derivation.{Request, Derived, requestJudged, derive, listOf, guestOf}
+use Rattle.rules.specs.Derivation.{Request, Derived, requestJudged, derive, listOf, guestOf, roomJudged}
+use Rattle.rules.specs.Device.{Found, find, findList, findWork}
 use Rattle.rules.specs.Listing.{pathsBytes}
 use Rattle.rules.specs.Program.{program}
 use Rattle.rules.specs.Copy.{Asked}
@@ -146,9 +147,6 @@ counted (go w) = 1 ∷ []
 
 abbrev ab : Bytes
 ab = closed (ascii "p") ++ closed (ascii "#clock-cells")
-
-abbrev handles : Bytes
-handles = closed (ascii "phandle") ++ closed (ascii "linux,phandle")
 
 unfoldable pub headerCases : List Case
 headerCases =
@@ -333,6 +331,9 @@ requestCases =
     ∷ says (derived (derive edition1 hostT (asks ("/soc/uart@100" ∷ []) [] []) 16384 23 254)) (0 ∷ 3 ∷ 23 ∷ 254 ∷ [])
     ∷ says (derived (derive edition1 hostT (asks ("/soc/uart@100" ∷ []) [] []) 16384 22 253)) (45 ∷ 23 ∷ [])
     ∷ says (derived (derive edition1 hostT (asks ("/soc/uart@100" ∷ []) [] []) 16384 23 253)) (46 ∷ 254 ∷ [])
+    -- guest room past the ceiling does not count
+    ∷ says (judged (roomJudged 0 1048576 0 2000000)) (0 ∷ [])
+    ∷ says (judged (roomJudged 0 1048577 0 2000000)) (46 ∷ 1048577 ∷ [])
     -- nothing asked: the root alone
     ∷ says (derives hostT (asks [] [] [])) (0 ∷ 0 ∷ 0 ∷ 72 ∷ [])
     -- 41: an empty path, no NUL, no slash, too long, a 65th; all of it before 42
@@ -366,6 +367,45 @@ requestCases =
 pub requestReads : holdAll requestCases ≡ true
 unfolding holdAll requestCases cpuEvents eventsT hostT everything
 requestReads = refl
+
+-- ---- the list asked for alone: 0, the count of paths and the length of the list, or the refusal's number and place
+
+abbrev found : Outcome Found → List ℕ
+found (gives d) = 0 ∷ d .paths ∷ d .listLength ∷ []
+found (refuses number place) = number ∷ place ∷ []
+
+abbrev finds : (conf excl : List String) → (words listRoom : ℕ) → List ℕ
+finds conf excl words listRoom = found (find edition1 hostT (paths conf) (paths excl) words listRoom)
+
+-- what is left of a list's buffer of so many sevens
+abbrev leaves : (conf : List String) → (listRoom : ℕ) → Bytes
+leaves conf listRoom = findList edition1 hostT (paths conf) [] 16384 (replicate listRoom 7)
+
+unfoldable pub findCases : List Case
+findCases =
+    -- tree T, and excluding `/clk`; 45
+    says (finds ("/soc/uart@100" ∷ []) [] 16384 23) (0 ∷ 3 ∷ 23 ∷ [])
+    ∷ says (finds ("/soc/uart@100" ∷ []) ("/clk" ∷ []) 16384 18) (0 ∷ 2 ∷ 18 ∷ [])
+    ∷ says (finds ("/soc/uart@100" ∷ []) [] 16384 22) (45 ∷ 23 ∷ [])
+    -- 40 before 1 before 41 before 42 before 45, and in 41 configured before excluded
+    ∷ says (found (find edition1 [] (0 ∷ []) [] 16383 0)) (40 ∷ 0 ∷ [])
+    ∷ says (found (find edition1 [] (0 ∷ []) [] 16384 0)) (1 ∷ 0 ∷ [])
+    ∷ says (finds ("/clk" ∷ "x" ∷ []) ("x" ∷ []) 16384 0) (41 ∷ 5 ∷ [])
+    ∷ says (finds ("/no" ∷ []) ("/soc" ∷ "x" ∷ []) 16384 0) (41 ∷ 5 ∷ [])
+    ∷ says (finds ("/clk" ∷ "/no" ∷ []) [] 16384 0) (42 ∷ 5 ∷ [])
+    ∷ says (finds ("/clk" ∷ "/pd" ∷ []) [] 16384 8) (45 ∷ 9 ∷ [])
+    -- nothing asked; a CPU child without `reg` is no fault
+    ∷ says (finds [] [] 16384 0) (0 ∷ 0 ∷ 0 ∷ [])
+    ∷ says (found (find edition1 (blobOf [] 0 (node "" ∷ node "cpus" ∷ node "cpu@0" ∷ closes 0 ∷ closes 0 ∷ closes 0 ∷ [])) (paths ("/cpus" ∷ [])) [] 16384 65536)) (0 ∷ 2 ∷ 18 ∷ [])
+    -- the list in its buffer, and a buffer that is too short; 40 touches no word
+    ∷ says (leaves ("/clk" ∷ "/pd" ∷ []) 11) (paths ("/clk" ∷ "/pd" ∷ []) ++ (7 ∷ 7 ∷ []))
+    ∷ says (leaves ("/clk" ∷ "/pd" ∷ []) 8) (replicate 8 7)
+    ∷ says (findWork (7 ∷ 0 ∷ 7 ∷ [])) (7 ∷ 0 ∷ 7 ∷ [])
+    ∷ []
+
+pub findReads : holdAll findCases ≡ true
+unfolding holdAll findCases eventsT hostT everything
+findReads = refl
 
 -- ---- the list and the copy
 

@@ -15,10 +15,11 @@ marksAt = tableWords
 unfoldable pub listAt : ℕ
 listAt = marksAt + nodeCeiling
 
--- the start nodes in byte order of path, which become the work that is left to do, the last on top
+-- the start nodes in byte order of path, which become the work that is left to do, the last on top; then what a child takes from its
+-- parent of whether it is copied; then, up to the end of the work space, the names that a copy has used
 unfoldable pub stackAt : ℕ
 stackAt = listAt + nodeCeiling
 
--- what is left, up to the end of the work space, is for the names that a copy has used
+-- a word for each node: whether it is above a listed one. It is read before the names are laid over it.
 unfoldable pub namesAt : ℕ
 namesAt = stackAt + nodeCeiling

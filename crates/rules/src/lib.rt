@@ -1,5 +1,6 @@
 // The numbers that code and definitions share, and the answer of the token walk. What each number bounds is said in
-// specs/Ceilings.antt; a number stands once here and once there, and nowhere else.
+// specs/Ceilings.antt: a ceiling stands once here and once there. The numbers of the Devicetree Specification, which no request
+// moves, stand here for code and where the definitions read its sections.
 
 // Ceilings.
 pub const BLOB_CEILING: usize = 1048576;

@@ -2,7 +2,7 @@
 use mathlib.Core.Path.{_≡_, refl, ap, _∙_}
 use mathlib.Core.Bool.{Bool, true, false, not, _||_}
 use mathlib.Core.List.{List, [], _∷_, _++_}
-use Prim.Native.Nat.{ℕ, _+_, _%_, _≤_, _<_}
+use Prim.Native.Nat.{ℕ, _+_, _≤_, _<_}
 use native.Mathlib.Omega.{arith}
 use lib.Dec.{leb, ltb, eqb}
 use lib.ListN.{length, length-append}
@@ -12,11 +12,12 @@ use Rattle.rules.specs.Ceilings.{blobCeiling, openCeiling}
 use Rattle.rules.specs.Octets.{Bytes, if_then_else_, be32, put, lay, hasNul}
 use Rattle.rules.specs.Names.{nodeNameValid}
 use Rattle.rules.specs.Outcome.{refuses, Verdict, passes, settled, Test, first}
-use Rattle.rules.specs.Writer.{State, answer, room, noRoom, impossible, wrongState, test, beginBytes, endBytes, beginJudged, endJudged, finishJudged, finishData, total, headerOf, stringsOf}
+use Rattle.rules.specs.Writer.{State, answer, room, noRoom, wrongState, test, beginBytes, endBytes, beginJudged, endJudged, finishJudged, finishData, total, headerOf, stringsOf}
 use Rattle.rules.specs.Laws.Tests.{or-false}
 use Rattle.rules.specs.Laws.Octets.{lay-put, length-lay, length-be32}
 use Rattle.rules.specs.Laws.Writer.{laid-on}
 use Rattle.rules.specs.Laws.Header.{length-header}
+use Rattle.judge.proofs.Possible.{Possible, possible}
 
 -- ---- verdicts
 
@@ -33,22 +34,6 @@ all-passed (t ∷ ts) e = go (t .fails) (all-passed ts) e
     go true rest f = let z : _≡_ {A = ℕ} 0 1 = cc in absurd (omega arith)
     go false rest f = (refl, rest f)
 
--- the same of tests joined by `||`
-abbrev joined : Bool → List Bool → Bool
-joined b [] = b
-joined b (c ∷ cs) = joined (b || c) cs
-
-abbrev None : List Bool → Type 0
-None [] = Unit {0}
-None (b ∷ bs) = (b ≡ false) × None bs
-
-none : (b : Bool) (bs : List Bool) → joined b bs ≡ false → None (b ∷ bs)
-none b [] e = (e, tt)
-none b (c ∷ cs) e =
-    let r = none (b || c) cs e in
-    let o = or-false b c (r .0) in
-    (o .0, (o .1, r .1))
-
 -- a refused call leaves all as it was
 pub answer-refused : (v : Verdict) (n : ℕ) (old new : State) → refuses n 0 ≡ v → record { verdict = refuses n 0; state = old } ≡ answer v old new
 answer-refused v n old new e = rw (← e)
@@ -63,37 +48,7 @@ answer-done v old new e = rw (← e)
 pub changed : (v : Verdict) {A : Type 0} (d d₁ : List A) (at : ℕ) (bs : List A) → passes ≡ v → at + length bs ≤ length d → d₁ ≡ lay d at bs → d₁ ≡ settled v d (put d at bs)
 changed v d d₁ at bs e h l = l ∙ rw (← e) (lay-put d at bs h)
 
--- ---- states
-
-pub record Possible (w : State) (dataLent stringsLent : ℕ) : Type 0 where
-  pub high : 56 ≤ w .dataLength
-  pub low : w .structure ≤ w .dataLength
-  pub deep : w .depth ≤ 64
-  pub inData : w .dataLength ≤ dataLent
-  pub dataSmall : w .dataLength ≤ blobCeiling
-  pub inStrings : w .stringsLength ≤ stringsLent
-  pub stringsSmall : w .stringsLength ≤ blobCeiling
-
-pub possible : (w : State) (a b : ℕ) → impossible w a b ≡ false → Possible w a b
-unfolding impossible blobCeiling openCeiling
-possible w a b e =
-    let t =
-    none (w .finished)
-    (ltb (w .dataLength) 56
-    ∷ not (eqb (w .dataLength % 4) 0)
-    ∷ ltb (w .structure) 56
-    ∷ ltb (w .dataLength) (w .structure)
-    ∷ ltb openCeiling (w .depth)
-    ∷ ltb (room a) (w .dataLength)
-    ∷ ltb (room b) (w .stringsLength)
-    ∷ [])
-    e in
-    let high : 56 ≤ w .dataLength = ltb-false _ _ (t .1 .0) in
-    let low : w .structure ≤ w .dataLength = ltb-false _ _ (t .1 .1 .1 .1 .0) in
-    let deep : w .depth ≤ openCeiling = ltb-false _ _ (t .1 .1 .1 .1 .1 .0) in
-    let d : w .dataLength ≤ room a = ltb-false _ _ (t .1 .1 .1 .1 .1 .1 .0) in
-    let s : w .stringsLength ≤ room b = ltb-false _ _ (t .1 .1 .1 .1 .1 .1 .1 .0) in
-    record { high = high; low = low; deep = omega arith; inData = omega arith; dataSmall = omega arith; inStrings = omega arith; stringsSmall = omega arith }
+-- ---- room
 
 -- there is room for so many bytes
 pub fits : (lent after : ℕ) → noRoom lent after .fails ≡ false → (after ≤ lent) × (after ≤ blobCeiling)

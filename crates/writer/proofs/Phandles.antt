@@ -1,34 +1,25 @@
--- `property_phandle`: its tests are those of a property, between its own; what its call answers and leaves.
+-- `property_phandle`: what its call answers and leaves.
 use mathlib.Core.Path.{_≡_, refl, sym, ap, _∙_}
-use mathlib.Core.Bool.{Bool, true, false, not}
+use mathlib.Core.Bool.{false}
 use mathlib.Core.List.{List, [], _∷_, _++_}
-use Prim.Native.Nat.{ℕ, _+_, _≤_, _<_}
+use Prim.Native.Nat.{ℕ, _+_, _≤_}
 use native.Mathlib.Omega.{arith}
-use lib.Dec.{eqb, ltb}
+use lib.Dec.{ltb}
 use lib.ListN.{length, take}
-use borrow.Author.Tests.{ltb-false, lt-ltb, le-ltb}
-use Rattle.rules.specs.Octets.{Bytes, if_then_else_, be32, padded, lay}
+use borrow.Author.Tests.{ltb-false}
+use Rattle.rules.specs.Octets.{Bytes, be32, lay}
 use Rattle.rules.specs.Lists.{oneOf}
-use Rattle.rules.specs.Outcome.{Outcome, gives, refuses, Verdict, passes, Test, first, _then_}
-use Rattle.rules.specs.Writer.{State, impossible, wrongState, nameOffset, test, stringsOf, growth, propertyBytes, propertyAt, propertyTests, phandleName, phandleJudged, withPhandle, phandle, phandleData, phandleStrings, phandleTable}
-use Rattle.rules.specs.Laws.Octets.{length-be32}
-use Rattle.rules.specs.Laws.Writer.{length-property}
-use Rattle.writer.specs.Meaning.{numberOf}
-use Rattle.writer.specs.Judged.{placeOf, sized, placed, phandlePlaced, grown, longer}
-use Rattle.writer.specs.declared.Error.{Error}
-use Rattle.writer.specs.declared.judge.Place.{Place}
-use Rattle.writer.specs.declared.judge.Place.the-variants.{At, Not}
+use Rattle.rules.specs.Outcome.{gives, refuses, Verdict, passes, first, _then_}
+use Rattle.rules.specs.Writer.{State, wrongState, nameOffset, test, stringsOf, growth, propertyBytes, propertyAt, propertyTests, phandleName, phandleJudged, withPhandle, phandle, phandleData, phandleStrings, phandleTable}
+use Rattle.judge.specs.Meaning.{numberOf}
+use Rattle.judge.specs.Judged.{placeOf, sized, placed, phandlePlaced, grown}
+use Rattle.judge.specs.declared.Error.{Error}
+use Rattle.judge.specs.declared.Place.{Place}
+use Rattle.judge.specs.declared.Place.the-variants.{At, Not}
+use Rattle.judge.proofs.Properties.{gives-judged, refuses-judged}
+use Rattle.judge.proofs.Phandles.{tableTest, phandle-size, phandle-on}
 use Rattle.writer.proofs.Passed.{all-passed, answer-refused, answer-done, kept, changed}
-use Rattle.writer.proofs.Properties.{gives-judged, refuses-judged, was-placed, Placed}
-
-first-append : (ts us : List Test) → first (ts ++ us) ≡ (first ts then first us)
-first-append [] us = refl
-first-append (t ∷ ts) us = go (t .fails) (first-append ts us)
-  where
-    go : (b : Bool) → first (ts ++ us) ≡ (first ts then first us)
-        → (if b then refuses (t .number) (t .place) else first (ts ++ us)) ≡ ((if b then refuses (t .number) (t .place) else first ts) then first us)
-    go true e = refl
-    go false e = e
+use Rattle.writer.proofs.Properties.{was-placed, Placed}
 
 -- the state with `size` bytes of data, `more` of strings, and one number noted
 abbrev pub withEntry : State → (size more : ℕ) → State
@@ -44,55 +35,9 @@ withEntry w size more =
       bootCpu = w .bootCpu;
     }
 
--- the test for room in the table
-abbrev pub tableTest : State → List ℕ → Test
-tableTest w phandles = test (ltb (length phandles) (w .phandleCount + 1)) 33
-
-module _ (w : State) (lent : ℕ) (strings : Bytes) (phandles : List ℕ) (value : ℕ) where
-  size : length (propertyAt w strings phandleName (be32 value)) ≡ 16
-  size = length-property (nameOffset phandleName (stringsOf w strings)) (be32 value) ∙ rw (length-be32 value)
-
-  -- behind its own tests come those of a property
-  pub phandle-on : impossible w lent (length strings) ≡ false → ltb (length phandles) (w .phandleCount) ≡ false → oneOf value (take (w .phandleCount) phandles) ≡ false
-      → phandleJudged w lent strings phandles value ≡ (sized w lent strings false phandleName 16 then first (tableTest w phandles ∷ []))
-  unfolding phandleJudged sized
-  phandle-on a b c =
-      rw (a, b, c) (first-append (propertyTests w lent strings phandleName (be32 value)) (tableTest w phandles ∷ []) ∙ rw size)
-
 then-passed : (v u : Verdict) → passes ≡ (v then u) → passes ≡ v
 then-passed (gives x) u e = refl
 then-passed (refuses n p) u e = e
-
-module _
-    (w : State)
-    (lent : ℕ)
-    (strings : Bytes)
-    (phandles : List ℕ)
-    (value : ℕ)
-    (a : impossible w lent (length strings) ≡ false)
-    (b : ltb (length phandles) (w .phandleCount) ≡ false)
-    (c : oneOf value (take (w .phandleCount) phandles) ≡ false)
-    (r : Place)
-    (f : placeOf r ≡ placed w lent strings false phandleName 16) where
-  -- the property is refused
-  pub phandle-not : (e : Error) → r ≡ Not e → refuses (numberOf e) 0 ≡ phandlePlaced w lent strings phandles value
-  unfolding placed phandlePlaced
-  phandle-not e t =
-      rw (phandle-on w lent strings phandles value a b c, ← refuses-judged (sized w lent strings false phandleName 16) (numberOf e) (nameOffset phandleName (stringsOf w strings)) (ap placeOf (sym t) ∙ f))
-
-  -- it passes, and the table is full
-  pub phandle-full : (offset : ℕ) → r ≡ At offset → length phandles ≡ w .phandleCount → refuses 33 0 ≡ phandlePlaced w lent strings phandles value
-  unfolding placed phandlePlaced
-  phandle-full offset t h =
-      let v = gives-judged (sized w lent strings false phandleName 16) offset (nameOffset phandleName (stringsOf w strings)) (ap placeOf (sym t) ∙ f) .0 in
-      rw (phandle-on w lent strings phandles value a b c, ← v, lt-ltb (length phandles) (w .phandleCount + 1) (omega arith))
-
-  -- it passes, and the table is not
-  pub phandle-at : (offset : ℕ) → r ≡ At offset → w .phandleCount < length phandles → gives offset ≡ phandlePlaced w lent strings phandles value
-  unfolding placed phandlePlaced
-  phandle-at offset t h =
-      let v = gives-judged (sized w lent strings false phandleName 16) offset (nameOffset phandleName (stringsOf w strings)) (ap placeOf (sym t) ∙ f) in
-      rw (phandle-on w lent strings phandles value a b c, ← v .0, le-ltb (length phandles) (w .phandleCount + 1) (omega arith)) (ap gives (v .1))
 
 pub record Noted (w : State) (lent : ℕ) (strings : Bytes) (phandles : List ℕ) (value offset : ℕ) : Type 0 where
   pub judged : passes ≡ phandleJudged w lent strings phandles value
@@ -121,13 +66,17 @@ was-noted w lent strings phandles value offset e =
     }
 
 -- the same of what the judge answered
-pub at-noted : (w : State) (lent : ℕ) (strings : Bytes) (phandles : List ℕ) (value offset : ℕ) (r : Place) → r ≡ At offset → placeOf r ≡ phandlePlaced w lent strings phandles value
-    → Noted w lent strings phandles value offset
-at-noted w lent strings phandles value offset r t e = was-noted w lent strings phandles value offset (ap placeOf (sym t) ∙ e)
+pub at-noted : (w : State) (lent : ℕ) (strings : Bytes) (phandles : List ℕ) (value offset : ℕ) (x : State) → x ≡ w → (r : Place) → r ≡ At offset
+    → placeOf r ≡ phandlePlaced x lent strings phandles value → Noted w lent strings phandles value offset
+at-noted w lent strings phandles value offset x h r t e =
+    was-noted w lent strings phandles value offset (ap placeOf (sym t) ∙ e ∙ ap (λ (y : State). phandlePlaced y lent strings phandles value) h)
 
 -- ---- what a call answers and leaves
 
-module _ (w : State) (d strings : Bytes) (phandles : List ℕ) (value : ℕ) (r : Place) (f : placeOf r ≡ phandlePlaced w (length d) strings phandles value) where
+module _ (w : State) (d strings : Bytes) (phandles : List ℕ) (value : ℕ) (y : State) (same : y ≡ w) (r : Place) (f : placeOf r ≡ phandlePlaced y (length d) strings phandles value) where
+  judged-so : placeOf r ≡ phandlePlaced w (length d) strings phandles value
+  judged-so = f ∙ ap (λ (v : State). phandlePlaced v (length d) strings phandles value) same
+
   pub phandle-refused : (e : Error) → r ≡ Not e
       → (record { verdict = refuses (numberOf e) 0; state = w } ≡ phandle w (length d) strings phandles value)
       × ((d ≡ phandleData w d strings phandles value)
@@ -136,7 +85,7 @@ module _ (w : State) (d strings : Bytes) (phandles : List ℕ) (value : ℕ) (r 
   unfolding phandlePlaced phandle phandleData phandleStrings phandleTable
   phandle-refused e t =
       let n = numberOf e in
-      let v : refuses n 0 ≡ phandleJudged w (length d) strings phandles value = refuses-judged _ n _ (ap placeOf (sym t) ∙ f) in
+      let v : refuses n 0 ≡ phandleJudged w (length d) strings phandles value = refuses-judged _ n _ (ap placeOf (sym t) ∙ judged-so) in
       (answer-refused _ n w (withPhandle w strings value) v, (kept _ n d _ v, (kept _ n strings _ v, kept _ n phandles _ v)))
 
   pub phandle-done : (offset : ℕ) → r ≡ At offset → (d₁ s₁ : Bytes) (t₁ : List ℕ) (x : State)
@@ -150,10 +99,10 @@ module _ (w : State) (d strings : Bytes) (phandles : List ℕ) (value : ℕ) (r 
       × (t₁ ≡ phandleTable w (length d) strings phandles value)))
   unfolding phandle phandleData phandleStrings phandleTable
   phandle-done offset t d₁ s₁ t₁ x g h k l =
-      let q = was-noted w (length d) strings phandles value offset (ap placeOf (sym t) ∙ f) in
+      let q = was-noted w (length d) strings phandles value offset (ap placeOf (sym t) ∙ judged-so) in
       let p = q .place in
       let v = q .judged in
-      let n = size w (length d) strings phandles value in (
+      let n = phandle-size w (length d) strings phandles value in (
         rw (l, ← n, ← p .grows) (answer-done _ w (withPhandle w strings value) v),
         (
           changed _ d d₁ (w .dataLength) (propertyAt w strings phandleName (be32 value)) v (omega (arith, p .dataFits)) (rw (p .found) at g),

@@ -12,33 +12,16 @@ use Rattle.rules.specs.Octets.{Bytes, if_then_else_, padded, lay, hasNul}
 use Rattle.rules.specs.Names.{propertyNameValid}
 use Rattle.rules.specs.Outcome.{gives, refuses, Verdict, passes, _then_}
 use Rattle.rules.specs.Writer.{State, nameOffset, nameGrowth, noRoom, wrongState, test, stringsOf, growth, propertyBytes, propertyAt, propertyJudged, withProperty, property, propertyData, propertyStrings}
-use Rattle.rules.specs.Laws.Tests.{by-test}
-use Rattle.rules.specs.Laws.Writer.{length-closed, length-property}
-use Rattle.writer.specs.Meaning.{numberOf}
-use Rattle.writer.specs.Judged.{placeOf, sized, placed, grown, longer}
-use Rattle.writer.specs.declared.Error.{Error}
-use Rattle.writer.specs.declared.judge.Place.{Place}
-use Rattle.writer.specs.declared.judge.Place.the-variants.{At, Not}
-use Rattle.writer.proofs.Passed.{all-passed, possible, fits, answer-refused, answer-done, kept, changed}
-
--- ---- a judgement, and what it gives
-
-pub gives-judged : (v : Verdict) (a b : ℕ) → gives a ≡ (v then gives b) → (passes ≡ v) × (a ≡ b)
-gives-judged (gives u) a b e = (refl, cc)
-gives-judged (refuses n p) a b e = let z : _≡_ {A = ℕ} 0 1 = cc in absurd (omega arith)
-
-pub refuses-judged : (v : Verdict) (n b : ℕ) → refuses n 0 ≡ (v then gives b) → refuses n 0 ≡ v
-refuses-judged (gives u) n b e = let z : _≡_ {A = ℕ} 0 1 = cc in absurd (omega arith)
-refuses-judged (refuses m p) n b e = cc
-
--- ---- what the strings grow by
-
-pub length-grown : (offset used : ℕ) (name : Bytes) → length (grown offset used name) ≡ if ltb offset used then 0 else length name + 1
-length-grown offset used name = by-test (ltb offset used) (λ e. rw e) (λ e. rw e (length-closed name))
-
-pub growth-eq : (w : State) (strings name : Bytes) (offset : ℕ) → w .stringsLength ≤ length strings → offset ≡ nameOffset name (stringsOf w strings) → growth w strings name ≡ grown offset (w .stringsLength) name
-unfolding nameGrowth
-growth-eq w strings name offset h e = rw (length-take-le (w .stringsLength) strings h, ← e)
+use Rattle.rules.specs.Laws.Writer.{length-property}
+use Rattle.judge.specs.Meaning.{numberOf}
+use Rattle.judge.specs.Judged.{placeOf, sized, placed, grown}
+use Rattle.judge.specs.declared.Error.{Error}
+use Rattle.judge.specs.declared.Place.{Place}
+use Rattle.judge.specs.declared.Place.the-variants.{At, Not}
+use Rattle.judge.proofs.Possible.{possible}
+use Rattle.judge.proofs.Properties.{gives-judged, refuses-judged, growth-eq}
+use Rattle.writer.specs.Longer.{longer}
+use Rattle.writer.proofs.Passed.{all-passed, fits, answer-refused, answer-done, kept, changed}
 
 -- ---- judged by size
 
@@ -94,13 +77,17 @@ module _ (w : State) (dataLent : ℕ) (strings : Bytes) (own : Bool) (name : Byt
       }
 
 -- the same of what the judge answered
-pub at-place : (w : State) (dataLent : ℕ) (strings : Bytes) (own : Bool) (name : Bytes) (size offset : ℕ) (r : Place) → r ≡ At offset → placeOf r ≡ placed w dataLent strings own name size
-    → Placed w dataLent strings name size offset
-at-place w dataLent strings own name size offset r t e = was-placed w dataLent strings own name size offset (ap placeOf (sym t) ∙ e)
+pub at-place : (w : State) (dataLent : ℕ) (strings : Bytes) (own : Bool) (name : Bytes) (size offset : ℕ) (x : State) → x ≡ w → (r : Place) → r ≡ At offset
+    → placeOf r ≡ placed x dataLent strings own name size → Placed w dataLent strings name size offset
+at-place w dataLent strings own name size offset x h r t e =
+    was-placed w dataLent strings own name size offset (ap placeOf (sym t) ∙ e ∙ ap (λ (y : State). placed y dataLent strings own name size) h)
 
 -- ---- what a call answers and leaves
 
-module _ (w : State) (d strings : Bytes) (own : Bool) (name value : Bytes) (size : ℕ) (z : size ≡ 12 + padded (length value)) (r : Place) (f : placeOf r ≡ placed w (length d) strings own name size) where
+module _ (w : State) (d strings : Bytes) (own : Bool) (name value : Bytes) (size : ℕ) (z : size ≡ 12 + padded (length value)) (y : State) (same : y ≡ w) (r : Place) (f : placeOf r ≡ placed y (length d) strings own name size) where
+  judged-so : placeOf r ≡ placed w (length d) strings own name size
+  judged-so = f ∙ ap (λ (v : State). placed v (length d) strings own name size) same
+
   pub property-refused : (e : Error) → r ≡ Not e
       → (record { verdict = refuses (numberOf e) 0; state = w } ≡ property w (length d) strings own name value)
       × ((d ≡ propertyData w d strings own name value) × (strings ≡ propertyStrings w (length d) strings own name value))
@@ -108,7 +95,7 @@ module _ (w : State) (d strings : Bytes) (own : Bool) (name value : Bytes) (size
   property-refused e t =
       let n = numberOf e in
       let v : refuses n 0 ≡ propertyJudged w (length d) strings own name value =
-      refuses-judged _ n _ (ap placeOf (sym t) ∙ f) ∙ sym (by-size w (length d) strings own name value size z) in
+      refuses-judged _ n _ (ap placeOf (sym t) ∙ judged-so) ∙ sym (by-size w (length d) strings own name value size z) in
       (answer-refused _ n w (withProperty w strings name value) v, (kept _ n d _ v, kept _ n strings _ v))
 
   pub property-done : (offset : ℕ) → r ≡ At offset → (d₁ s₁ : Bytes) (x : State)
@@ -119,7 +106,7 @@ module _ (w : State) (d strings : Bytes) (own : Bool) (name value : Bytes) (size
       × ((d₁ ≡ propertyData w d strings own name value) × (s₁ ≡ propertyStrings w (length d) strings own name value))
   unfolding property propertyData propertyStrings
   property-done offset t d₁ s₁ x g h k =
-      let e = ap placeOf (sym t) ∙ f in
+      let e = ap placeOf (sym t) ∙ judged-so in
       let v : passes ≡ propertyJudged w (length d) strings own name value =
       was-judged w (length d) strings own name size offset e ∙ sym (by-size w (length d) strings own name value size z) in
       let p = was-placed w (length d) strings own name size offset e in

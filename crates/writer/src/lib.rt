@@ -1,9 +1,10 @@
-// The writer of devicetree blobs: a state by value, and the buffers that each call is lent.
-mod judge;
-mod start;
-
+// The writer of devicetree blobs: a state by value, and the buffers that each call is lent. Why a call is refused, 20 to 34,
+// is the `Error` of its tests, passed on.
+pub use judge::Error;
 use judge::Judged;
 use judge::Place;
+use judge::State;
+use judge::start;
 use reservation::Reservation;
 use rules::FDT_END;
 use rules::FDT_HEADER_SIZE;
@@ -20,8 +21,10 @@ ghost use Rattle.rules.specs.Ceilings.{blobCeiling};
 ghost use Rattle.rules.specs.Octets.{be32, be64, words32, words64, closed, lay};
 ghost use Rattle.rules.specs.Writer.{fresh, start, startData, beginNode, beginNodeData, endNode, endNodeData, setBootCpu, property, propertyData, propertyStrings, badString, badList, phandle, phandleData, phandleStrings, phandleTable, finish, finishData};
 ghost use Rattle.reservation.specs.Made.{entriesOf};
+ghost use Rattle.judge.specs.Judged.{grown};
+ghost use Rattle.judge.specs.Meaning.{stateOf as judgedOf};
 ghost use Rattle.writer.specs.Meaning.{stateOf, meaning};
-ghost use Rattle.writer.specs.Judged.{grown, longer};
+ghost use Rattle.writer.specs.Longer.{longer};
 
 // A blob that is being written: how much of each lent buffer is in use, where the structure block begins, how many nodes
 // are open, whether the last token closed one, whether `finish` was called, and the boot CPU.
@@ -34,40 +37,6 @@ pub struct FdtWriter {
     pub node_ended: bool,
     pub finished: bool,
     pub boot_cpuid_phys: u32,
-}
-
-// Why a call is refused: 20 to 34, in this order.
-pub enum Error {
-    // Properties may not be added before beginning a node.
-    PropertyBeforeBeginNode,
-    // Properties may not be added after a node has been ended.
-    PropertyAfterEndNode,
-    // Property value size must fit in 32 bits. No call gives it: there is no room for such a value.
-    PropertyValueTooLarge,
-    // Total size must fit in 32 bits. No call gives it: there is no room for such a blob.
-    TotalSizeTooLarge,
-    // Strings cannot contain NUL.
-    InvalidString,
-    // Attempted to end a node that was not the most recent.
-    OutOfOrderEndNode,
-    // Attempted to call finish without ending all nodes.
-    UnclosedNode,
-    // Memory reservation is invalid.
-    InvalidMemoryReservation,
-    // Memory reservations are overlapping.
-    OverlappingMemoryReservations,
-    // Invalid node name.
-    InvalidNodeName,
-    // Invalid property name.
-    InvalidPropertyName,
-    // Too many open nodes.
-    NodeDepthTooLarge,
-    // Duplicate phandle property.
-    DuplicatePhandle,
-    // A lent buffer is too small, or there are too many reservations.
-    NoRoom,
-    // The state is finished, or its numbers cannot be so.
-    ImpossibleState,
 }
 
 // What a call answers: the next state; or the state as it was, and why. A refused call changes no buffer.
@@ -127,6 +96,22 @@ impl FdtWriter {
         }
     }
 
+    // The state as the tests of a call take it.
+    fn state(self) -> State
+        ensures { λ r. ⌜ judgedOf r ≡ stateOf self ⌝ }
+    {
+        State {
+            data_len: self.data_len,
+            off_dt_struct: self.off_dt_struct,
+            strings_len: self.strings_len,
+            phandles_len: self.phandles_len,
+            node_depth: self.node_depth,
+            node_ended: self.node_ended,
+            finished: self.finished,
+            boot_cpuid_phys: self.boot_cpuid_phys,
+        }
+    }
+
     // Sets the boot CPU of the header. Never refuses.
     pub fn set_boot_cpuid_phys(mut self, boot_cpuid_phys: u32) -> FdtWriter
         ensures { λ r. ⌜ stateOf r ≡ setBootCpu (stateOf self) «boot_cpuid_phys» ⌝ }
@@ -142,11 +127,11 @@ impl FdtWriter {
         ensures answer { λ r. ⌜ meaning r ≡ beginNode (stateOf self) (length (now («data» .entry))) (now (name .entry)) ⌝ }
         ensures bytes { λ _. ⌜ now («data» .exit) ≡ beginNodeData (stateOf self) (now («data» .entry)) (now (name .entry)) ⌝ }
     {
-        match judge::begin_node(self, data.len(), name) {
+        match judge::begin_node(self.state(), data.len(), name) {
             Judged::No(e) => Written::Refused(self, e),
             Judged::Passed => {
                 append::begin(data, self.data_len, name);
-                self.data_len += judge::begin_size(name.len());
+                self.data_len += judge::begin_size(name);
                 self.node_depth += 1;
                 self.node_ended = false;
                 Written::Done(self)
@@ -160,7 +145,7 @@ impl FdtWriter {
         ensures answer { λ r. ⌜ meaning r ≡ endNode (stateOf self) (length (now («data» .entry))) depth ⌝ }
         ensures bytes { λ _. ⌜ now («data» .exit) ≡ endNodeData (stateOf self) (now («data» .entry)) depth ⌝ }
     {
-        match judge::end_node(self, data.len(), depth) {
+        match judge::end_node(self.state(), data.len(), depth) {
             Judged::No(e) => Written::Refused(self, e),
             Judged::Passed => {
                 append::end(data, self.data_len);
@@ -208,8 +193,8 @@ impl FdtWriter {
         ensures bytes { λ _. ⌜ now («data» .exit) ≡ propertyData (stateOf self) (now («data» .entry)) (now (strings .entry)) own (now (name .entry)) (now (val .entry)) ⌝ }
         ensures names { λ _. ⌜ now (strings .exit) ≡ propertyStrings (stateOf self) (length (now («data» .entry))) (now (strings .entry)) own (now (name .entry)) (now (val .entry)) ⌝ }
     {
-        let size = judge::property_size(val.len());
-        match judge::property(self, data.len(), strings, own, name, size) {
+        let size = judge::property_size(val);
+        match judge::property(self.state(), data.len(), strings, own, name, size) {
             Place::Not(e) => Written::Refused(self, e),
             Place::At(offset) => {
                 append::property(data, self.data_len, offset, val);
@@ -258,8 +243,8 @@ impl FdtWriter {
         ensures names { λ _. ⌜ now (strings .exit) ≡ propertyStrings (stateOf self) (length (now («data» .entry))) (now (strings .entry)) (badString (now (val .entry))) (now (name .entry)) (closed (now (val .entry))) ⌝ }
     {
         let own = judge::has_nul(val);
-        let size = judge::property_size(val.len() + 1);
-        match judge::property(self, data.len(), strings, own, name, size) {
+        let size = judge::string_size(val);
+        match judge::property(self.state(), data.len(), strings, own, name, size) {
             Place::Not(e) => Written::Refused(self, e),
             Place::At(offset) => {
                 append::property_string(data, self.data_len, offset, val);
@@ -326,8 +311,8 @@ impl FdtWriter {
         ensures bytes { λ _. ⌜ now («data» .exit) ≡ propertyData (stateOf self) (now («data» .entry)) (now (strings .entry)) false (now (name .entry)) (words32 (now (cells .entry))) ⌝ }
         ensures names { λ _. ⌜ now (strings .exit) ≡ propertyStrings (stateOf self) (length (now («data» .entry))) (now (strings .entry)) false (now (name .entry)) (words32 (now (cells .entry))) ⌝ }
     {
-        let size = judge::property_size(cells.len() * 4);
-        match judge::property(self, data.len(), strings, false, name, size) {
+        let size = judge::words_size(cells);
+        match judge::property(self.state(), data.len(), strings, false, name, size) {
             Place::Not(e) => Written::Refused(self, e),
             Place::At(offset) => {
                 append::property_words(data, self.data_len, offset, cells);
@@ -348,8 +333,8 @@ impl FdtWriter {
         ensures bytes { λ _. ⌜ now («data» .exit) ≡ propertyData (stateOf self) (now («data» .entry)) (now (strings .entry)) false (now (name .entry)) (words64 (now (cells .entry))) ⌝ }
         ensures names { λ _. ⌜ now (strings .exit) ≡ propertyStrings (stateOf self) (length (now («data» .entry))) (now (strings .entry)) false (now (name .entry)) (words64 (now (cells .entry))) ⌝ }
     {
-        let size = judge::property_size(cells.len() * 8);
-        match judge::property(self, data.len(), strings, false, name, size) {
+        let size = judge::longs_size(cells);
+        match judge::property(self.state(), data.len(), strings, false, name, size) {
             Place::Not(e) => Written::Refused(self, e),
             Place::At(offset) => {
                 append::property_longs(data, self.data_len, offset, cells);
@@ -373,7 +358,7 @@ impl FdtWriter {
         ensures names { λ _. ⌜ now (strings .exit) ≡ phandleStrings (stateOf self) (length (now («data» .entry))) (now (strings .entry)) (now (phandles .entry)) val ⌝ }
         ensures noted { λ _. ⌜ now (phandles .exit) ≡ phandleTable (stateOf self) (length (now («data» .entry))) (now (strings .entry)) (now (phandles .entry)) val ⌝ }
     {
-        match judge::phandle(self, data.len(), strings, phandles, val) {
+        match judge::phandle(self.state(), data.len(), strings, phandles, val) {
             Place::Not(e) => Written::Refused(self, e), // the number stays free
             Place::At(offset) => {
                 append::property_words(data, self.data_len, offset, &[val]);
@@ -390,7 +375,7 @@ impl FdtWriter {
         ensures answer { λ r. ⌜ meaning r ≡ finish (stateOf self) (length (now («data» .entry))) (length (now (strings .entry))) ⌝ }
         ensures bytes { λ _. ⌜ now («data» .exit) ≡ finishData (stateOf self) (now («data» .entry)) (now (strings .entry)) ⌝ }
     {
-        match judge::finish(self, data.len(), strings.len()) {
+        match judge::finish(self.state(), data.len(), strings.len()) {
             Judged::No(e) => Written::Refused(self, e),
             Judged::Passed => {
                 let used = self.strings_len;

@@ -7,9 +7,9 @@ use Prim.Native.Nat.{_-_, _≤_}
 use native.Mathlib.Omega.{arith}
 use lib.ListN.{length}
 use denote.Ref.{now}
-use Rattle.rules.specs.Ceilings.{nodeCeiling}
 use Rattle.rules.specs.Octets.{Bytes, part}
 use Rattle.rules.specs.Tree.{frame}
+use Rattle.rules.specs.Laws.Kept.{node-word}
 use Rattle.paths.specs.Trees.{treeOf}
 use Rattle.references.specs.Table.{found}
 use Rattle.given.specs.Entries.{path-tells}
@@ -80,8 +80,7 @@ returns-3 c = (
 )
 
 cast-put-word-of : tie.Need-cast-put-word-of Inv-loop μ-loop
-unfolding nodeCeiling
-cast-put-word-of c = record { fits = (let s : Bytes = [] in omega (arith, at-small (c .before .before .before .before .before .before .before .before .before .before .before .before .before .before .before .before .before .before .args .place) (now (c .before .before .before .before .before .before .before .before .before .before .before .before .before .before .before .before .before .before .args .structure)) s (now (c .before .before .before .before .before .before .before .before .before .before .before .before .before .before .before .before .before .before .args .work)) (c .before .before .before .before .before .before .before .before .before .before .before .before .before .before .before .before .before .before .args .count) (part (now (c .before .before .before .before .before .before .before .before .before .before .before .before .before .before .before .before .before .before .args .list)) (c .before .before .before .before .before .before .before .before .before .before .before .before .before .loop .at) (c .before .before .before .before .before .before .before .before .before .before .len .given .0 .0)) (c .before .before .before .before .before .i .given .0 .0) (told-at (frame (treeOf (c .before .before .before .before .before .before .before .before .before .before .before .before .before .before .before .before .before .before .args .place) (now (c .before .before .before .before .before .before .before .before .before .before .before .before .before .before .before .before .before .before .args .structure)) s (now (c .before .before .before .before .before .before .before .before .before .before .before .before .before .before .before .before .before .before .args .work)) (c .before .before .before .before .before .before .before .before .before .before .before .before .before .before .before .before .before .before .args .count))) (now (c .before .before .before .before .before .before .before .before .before .before .before .before .before .before .before .before .before .before .args .list)) (now (c .before .before .before .before .before .before .before .before .part .result)) (c .before .before .before .before .before .before .before .before .before .before .before .before .before .loop .at) (c .before .before .before .before .before .before .before .before .before .before .len .given .0 .0) (c .before .before .before .before .before .before .before .node-at .result) (some (c .before .before .before .before .before .i .given .0 .0)) (c .before .before .before .before .before .before .before .before .part .ensures) (c .before .before .before .before .before .before .before .node-at .ensures s) (ap found (c .before .before .before .before .before .i .given .1))), c .before .before .before .before .before .before .before .before .before .before .before .before .before .before .before .before .before .before .pre .0)) }
+cast-put-word-of c = record { fits = (let s : Bytes = [] in omega (arith, node-word, at-small (c .before .before .before .before .before .before .before .before .before .before .before .before .before .before .before .before .before .before .args .place) (now (c .before .before .before .before .before .before .before .before .before .before .before .before .before .before .before .before .before .before .args .structure)) s (now (c .before .before .before .before .before .before .before .before .before .before .before .before .before .before .before .before .before .before .args .work)) (c .before .before .before .before .before .before .before .before .before .before .before .before .before .before .before .before .before .before .args .count) (part (now (c .before .before .before .before .before .before .before .before .before .before .before .before .before .before .before .before .before .before .args .list)) (c .before .before .before .before .before .before .before .before .before .before .before .before .before .loop .at) (c .before .before .before .before .before .before .before .before .before .before .len .given .0 .0)) (c .before .before .before .before .before .i .given .0 .0) (told-at (frame (treeOf (c .before .before .before .before .before .before .before .before .before .before .before .before .before .before .before .before .before .before .args .place) (now (c .before .before .before .before .before .before .before .before .before .before .before .before .before .before .before .before .before .before .args .structure)) s (now (c .before .before .before .before .before .before .before .before .before .before .before .before .before .before .before .before .before .before .args .work)) (c .before .before .before .before .before .before .before .before .before .before .before .before .before .before .before .before .before .before .args .count))) (now (c .before .before .before .before .before .before .before .before .before .before .before .before .before .before .before .before .before .before .args .list)) (now (c .before .before .before .before .before .before .before .before .part .result)) (c .before .before .before .before .before .before .before .before .before .before .before .before .before .loop .at) (c .before .before .before .before .before .before .before .before .before .before .len .given .0 .0) (c .before .before .before .before .before .before .before .node-at .result) (some (c .before .before .before .before .before .i .given .0 .0)) (c .before .before .before .before .before .before .before .before .part .ensures) (c .before .before .before .before .before .before .before .node-at .ensures s) (ap found (c .before .before .before .before .before .i .given .1))), c .before .before .before .before .before .before .before .before .before .before .before .before .before .before .before .before .before .before .pre .0)) }
 
 put-word-of-requires : tie.Need-put-word-of-requires Inv-loop μ-loop
 put-word-of-requires c κs = search needs

@@ -5,9 +5,9 @@ use Prim.Native.Nat.{ℕ}
 use lib.ListN.{length, drop}
 use denote.Ref.{now}
 use Rattle.rules.specs.Ceilings.{workWords}
+use Rattle.rules.specs.Laws.Host.{HostRead, host-read, cleared, space-cleared, space-length-kept}
 use Rattle.reader.specs.Answers.{meaning}
-use Rattle.derive.specs.Answered.{HostRead}
-use Rattle.derive.proofs.Joining.{cleared, space-length-kept, refused-answer, refused-list, refused-guest, refused-space, host-read, derived-is, derived-list, derived-guest, space-cleared}
+use Rattle.derive.proofs.Joining.{refused-answer, refused-list, refused-guest, refused-space, derived-is, derived-list, derived-guest}
 use borrow.Author.Needs.{needs}
 use Rattle.derive.proofs.derive.Statement.{statement}
 use Rattle.derive.proofs.derive.Tie as tie
@@ -25,7 +25,7 @@ enum-known-count : tie.Need-enum-known-count
 enum-known-count c = search needs
 
 accepted-requires : tie.Need-accepted-requires
-accepted-requires c κs = subst (λ (ws : List ℕ). HostRead (now (c .before .before .before .before .before .before .before .before .before .before .before .before .before .before .before .before .before .args .host)) ws (c .before .before .before .before .count .given .0 .0)) (sym (c .before .before .before .before .before .before .before .before .read .ensures .1)) (host-read (now (c .before .before .before .before .before .before .before .before .before .before .before .before .before .before .before .before .before .args .host)) (record { configured = now (c .before .before .before .before .before .before .before .before .before .before .before .before .before .before .before .before .before .args .configured); excluded = now (c .before .before .before .before .before .before .before .before .before .before .before .before .before .before .before .before .before .args .excluded); ids = now (c .before .before .before .before .before .before .before .before .before .before .before .before .before .before .before .before .before .args .ids) }) (now (c .before .before .before .before .before .before .before .before .before .before .before .before .before .before .before .before .before .args .work)) (c .before .before .before .before .count .given .0 .0) (sym (ap meaning (c .before .before .before .before .count .given .1)) ∙ c .before .before .before .before .before .before .before .before .read .ensures .0))
+accepted-requires c κs = subst (λ (ws : List ℕ). HostRead (now (c .before .before .before .before .before .before .before .before .before .before .before .before .before .before .before .before .before .args .host)) ws (c .before .before .before .before .count .given .0 .0)) (sym (c .before .before .before .before .before .before .before .before .read .ensures .1)) (host-read (now (c .before .before .before .before .before .before .before .before .before .before .before .before .before .before .before .before .before .args .host)) (now (c .before .before .before .before .before .before .before .before .before .before .before .before .before .before .before .before .before .args .work)) (c .before .before .before .before .count .given .0 .0) (sym (ap meaning (c .before .before .before .before .count .given .1)) ∙ c .before .before .before .before .before .before .before .before .read .ensures .0))
 
 clear-requires : tie.Need-clear-requires
 clear-requires c κs = search needs
@@ -46,7 +46,7 @@ returns c = (
 )
 
 same-length-2 : tie.Need-same-length-2
-same-length-2 c = ap length (space-cleared (now (c .before .before .before .before .before .before .before .before .before .before .before .before .before .before .before .before .before .before .before .before .before .before .before .before .before .before .before .before .args .host)) (record { configured = now (c .before .before .before .before .before .before .before .before .before .before .before .before .before .before .before .before .before .before .before .before .before .before .before .before .before .before .before .before .args .configured); excluded = now (c .before .before .before .before .before .before .before .before .before .before .before .before .before .before .before .before .before .before .before .before .before .before .before .before .before .before .before .before .args .excluded); ids = now (c .before .before .before .before .before .before .before .before .before .before .before .before .before .before .before .before .before .before .before .before .before .before .before .before .before .before .before .before .args .ids) }) (now (c .before .before .before .before .before .before .before .before .before .before .before .before .before .before .before .before .before .before .before .before .before .before .before .before .before .before .before .before .args .work)) (c .before .before .before .before .before .before .before .before .before .before .before .before .before .before .before .count .given .0 .0) (sym (ap meaning (c .before .before .before .before .before .before .before .before .before .before .before .before .before .before .before .count .given .1)) ∙ c .before .before .before .before .before .before .before .before .before .before .before .before .before .before .before .before .before .before .before .read .ensures .0) (c .before .before .before .before .before .before .before .before .before .before .accepted .last .1 .1 .1 .1 .0) _ (c .before .before .before .before .before .before .before .before .before .before .accepted .ensures .size ∙ ap length (c .before .before .before .before .before .before .before .before .before .before .before .before .before .before .before .before .before .before .before .read .ensures .1)) (c .before .before .before .before .before .before .before .before .before .before .accepted .ensures .rest ∙ ap (drop workWords) (c .before .before .before .before .before .before .before .before .before .before .before .before .before .before .before .before .before .before .before .read .ensures .1)) (cleared (c .before .before .before .before .before .before .before .before .before .before .accepted .last .1 .1 .1 .1 .0) _ (c .before .before .clear .ensures))) ∙ space-length-kept (now (c .before .before .before .before .before .before .before .before .before .before .before .before .before .before .before .before .before .before .before .before .before .before .before .before .before .before .before .before .args .work))
+same-length-2 c = ap length (space-cleared (now (c .before .before .before .before .before .before .before .before .before .before .before .before .before .before .before .before .before .before .before .before .before .before .before .before .before .before .before .before .args .host)) (now (c .before .before .before .before .before .before .before .before .before .before .before .before .before .before .before .before .before .before .before .before .before .before .before .before .before .before .before .before .args .work)) (c .before .before .before .before .before .before .before .before .before .before .before .before .before .before .before .count .given .0 .0) (sym (ap meaning (c .before .before .before .before .before .before .before .before .before .before .before .before .before .before .before .count .given .1)) ∙ c .before .before .before .before .before .before .before .before .before .before .before .before .before .before .before .before .before .before .before .read .ensures .0) (c .before .before .before .before .before .before .before .before .before .before .accepted .last .1 .1 .1 .1 .0) _ (c .before .before .before .before .before .before .before .before .before .before .accepted .ensures .size ∙ ap length (c .before .before .before .before .before .before .before .before .before .before .before .before .before .before .before .before .before .before .before .read .ensures .1)) (c .before .before .before .before .before .before .before .before .before .before .accepted .ensures .rest ∙ ap (drop workWords) (c .before .before .before .before .before .before .before .before .before .before .before .before .before .before .before .before .before .before .before .read .ensures .1)) (cleared (c .before .before .before .before .before .before .before .before .before .before .accepted .last .1 .1 .1 .1 .0) _ (c .before .before .clear .ensures))) ∙ space-length-kept (now (c .before .before .before .before .before .before .before .before .before .before .before .before .before .before .before .before .before .before .before .before .before .before .before .before .before .before .before .before .args .work))
 
 same-length-3 : tie.Need-same-length-3
 same-length-3 c = search needs
@@ -61,7 +61,7 @@ returns-2 c = (
     derived-list (now (c .before .before .before .before .before .before .before .before .before .before .before .before .before .before .before .before .before .before .before .before .before .before .before .before .before .before .before .before .args .host)) (record { configured = now (c .before .before .before .before .before .before .before .before .before .before .before .before .before .before .before .before .before .before .before .before .before .before .before .before .before .before .before .before .args .configured); excluded = now (c .before .before .before .before .before .before .before .before .before .before .before .before .before .before .before .before .before .before .before .before .before .before .before .before .before .before .before .before .args .excluded); ids = now (c .before .before .before .before .before .before .before .before .before .before .before .before .before .before .before .before .before .before .before .before .before .before .before .before .before .before .before .before .args .ids) }) (now (c .before .before .before .before .before .before .before .before .before .before .before .before .before .before .before .before .before .before .before .before .before .before .before .before .before .before .before .before .args .work)) (c .before .before .before .before .before .before .before .before .before .before .before .before .before .before .before .count .given .0 .0) (sym (ap meaning (c .before .before .before .before .before .before .before .before .before .before .before .before .before .before .before .count .given .1)) ∙ c .before .before .before .before .before .before .before .before .before .before .before .before .before .before .before .before .before .before .before .read .ensures .0) (now (c .before .before .before .before .before .before .before .before .before .before .before .before .before .before .before .before .before .before .before .before .before .before .before .before .before .before .before .before .args .list)) (now (c .before .before .before .before .before .before .before .before .before .before .before .before .before .before .before .before .before .before .before .before .before .before .before .before .before .before .before .before .args .guest)) _ (c .before .before .before .before .before .before .before .before .before .before .accepted .ensures .listed),
     (
       derived-guest (now (c .before .before .before .before .before .before .before .before .before .before .before .before .before .before .before .before .before .before .before .before .before .before .before .before .before .before .before .before .args .host)) (record { configured = now (c .before .before .before .before .before .before .before .before .before .before .before .before .before .before .before .before .before .before .before .before .before .before .before .before .before .before .before .before .args .configured); excluded = now (c .before .before .before .before .before .before .before .before .before .before .before .before .before .before .before .before .before .before .before .before .before .before .before .before .before .before .before .before .args .excluded); ids = now (c .before .before .before .before .before .before .before .before .before .before .before .before .before .before .before .before .before .before .before .before .before .before .before .before .before .before .before .before .args .ids) }) (now (c .before .before .before .before .before .before .before .before .before .before .before .before .before .before .before .before .before .before .before .before .before .before .before .before .before .before .before .before .args .work)) (c .before .before .before .before .before .before .before .before .before .before .before .before .before .before .before .count .given .0 .0) (sym (ap meaning (c .before .before .before .before .before .before .before .before .before .before .before .before .before .before .before .count .given .1)) ∙ c .before .before .before .before .before .before .before .before .before .before .before .before .before .before .before .before .before .before .before .read .ensures .0) (now (c .before .before .before .before .before .before .before .before .before .before .before .before .before .before .before .before .before .before .before .before .before .before .before .before .before .before .before .before .args .list)) (now (c .before .before .before .before .before .before .before .before .before .before .before .before .before .before .before .before .before .before .before .before .before .before .before .before .before .before .before .before .args .guest)) _ (c .before .before .before .before .before .before .before .before .before .before .accepted .ensures .copied),
-      (space-cleared (now (c .before .before .before .before .before .before .before .before .before .before .before .before .before .before .before .before .before .before .before .before .before .before .before .before .before .before .before .before .args .host)) (record { configured = now (c .before .before .before .before .before .before .before .before .before .before .before .before .before .before .before .before .before .before .before .before .before .before .before .before .before .before .before .before .args .configured); excluded = now (c .before .before .before .before .before .before .before .before .before .before .before .before .before .before .before .before .before .before .before .before .before .before .before .before .before .before .before .before .args .excluded); ids = now (c .before .before .before .before .before .before .before .before .before .before .before .before .before .before .before .before .before .before .before .before .before .before .before .before .before .before .before .before .args .ids) }) (now (c .before .before .before .before .before .before .before .before .before .before .before .before .before .before .before .before .before .before .before .before .before .before .before .before .before .before .before .before .args .work)) (c .before .before .before .before .before .before .before .before .before .before .before .before .before .before .before .count .given .0 .0) (sym (ap meaning (c .before .before .before .before .before .before .before .before .before .before .before .before .before .before .before .count .given .1)) ∙ c .before .before .before .before .before .before .before .before .before .before .before .before .before .before .before .before .before .before .before .read .ensures .0) (c .before .before .before .before .before .before .before .before .before .before .accepted .last .1 .1 .1 .1 .0) _ (c .before .before .before .before .before .before .before .before .before .before .accepted .ensures .size ∙ ap length (c .before .before .before .before .before .before .before .before .before .before .before .before .before .before .before .before .before .before .before .read .ensures .1)) (c .before .before .before .before .before .before .before .before .before .before .accepted .ensures .rest ∙ ap (drop workWords) (c .before .before .before .before .before .before .before .before .before .before .before .before .before .before .before .before .before .before .before .read .ensures .1)) (cleared (c .before .before .before .before .before .before .before .before .before .before .accepted .last .1 .1 .1 .1 .0) _ (c .before .before .clear .ensures))),
+      (space-cleared (now (c .before .before .before .before .before .before .before .before .before .before .before .before .before .before .before .before .before .before .before .before .before .before .before .before .before .before .before .before .args .host)) (now (c .before .before .before .before .before .before .before .before .before .before .before .before .before .before .before .before .before .before .before .before .before .before .before .before .before .before .before .before .args .work)) (c .before .before .before .before .before .before .before .before .before .before .before .before .before .before .before .count .given .0 .0) (sym (ap meaning (c .before .before .before .before .before .before .before .before .before .before .before .before .before .before .before .count .given .1)) ∙ c .before .before .before .before .before .before .before .before .before .before .before .before .before .before .before .before .before .before .before .read .ensures .0) (c .before .before .before .before .before .before .before .before .before .before .accepted .last .1 .1 .1 .1 .0) _ (c .before .before .before .before .before .before .before .before .before .before .accepted .ensures .size ∙ ap length (c .before .before .before .before .before .before .before .before .before .before .before .before .before .before .before .before .before .before .before .read .ensures .1)) (c .before .before .before .before .before .before .before .before .before .before .accepted .ensures .rest ∙ ap (drop workWords) (c .before .before .before .before .before .before .before .before .before .before .before .before .before .before .before .before .before .before .before .read .ensures .1)) (cleared (c .before .before .before .before .before .before .before .before .before .before .accepted .last .1 .1 .1 .1 .0) _ (c .before .before .clear .ensures))),
     ),
   ),
 )

@@ -3,7 +3,7 @@ use mathlib.Core.Path.{sym, _∙_}
 use native.Mathlib.Omega.{arith}
 use denote.Ref.{now}
 use borrow.Author.Tests.{not-true, not-false}
-use Rattle.rules.specs.Ceilings.{nodeCeiling}
+use Rattle.rules.specs.Laws.Kept.{node-word}
 use Rattle.order.specs.Starts.{block}
 use Rattle.order.proofs.Turns.{turn-skip, formed-kept, ordered-kept, turn-take}
 use borrow.Author.Needs.{needs}
@@ -29,8 +29,7 @@ halved-requires : tie.Need-halved-requires
 halved-requires c κs = search needs
 
 cast-insert : tie.Need-cast-insert
-unfolding nodeCeiling
-cast-insert c = omega (arith, c .before .before .before .before .before .before .before .before .before .pre)
+cast-insert c = omega (arith, node-word, c .before .before .before .before .before .before .before .before .before .pre)
 
 insert-requires : tie.Need-insert-requires
 insert-requires c κs = search needs

@@ -3,10 +3,8 @@ use mathlib.Core.Path.{ap}
 use Prim.Native.Nat.{ℕ}
 use lib.Dec.{eqb}
 use denote.Ref.{now}
-use Rattle.rules.specs.Ceilings.{nodeCeiling}
-use Rattle.rules.specs.Space.{marksAt, stackAt, namesAt}
+use Rattle.rules.specs.Laws.Kept.{node-word, marks-at, stack-at, names-at, word-in-part, put-in-part}
 use Rattle.references.specs.Cells.{blockOf}
-use Rattle.picks.proofs.Places.{marks-at, stack-at, names-at, word-at, put-at}
 use Rattle.picks.proofs.Coding.{turned-is}
 use borrow.Author.Needs.{needs}
 use Rattle.picks.proofs.pick.Statement.{statement}
@@ -16,8 +14,7 @@ code-requires : tie.Need-code-requires
 code-requires c κs = (c .before .before .before .before .before .before .pre .0, c .before .before .before .before .before .before .pre .1)
 
 add-word-of : tie.Need-add-word-of
-unfolding nodeCeiling
-add-word-of c = let g = c .before .before .before .before .before .before .before .before .pre .0 in let h = c .before .before .before .before .before .before .before .before .pre .1 in search needs
+add-word-of c = let w = node-word in let g = c .before .before .before .before .before .before .before .before .pre .0 in let h = c .before .before .before .before .before .before .before .before .pre .1 in search needs
 
 word-of-requires : tie.Need-word-of-requires
 word-of-requires c κs = search needs
@@ -26,15 +23,13 @@ taken-requires : tie.Need-taken-requires
 taken-requires c κs = search needs
 
 add-put-word-of : tie.Need-add-put-word-of
-unfolding nodeCeiling
-add-put-word-of c = let g = c .before .before .before .before .before .before .before .before .before .before .before .pre .0 in let h = c .before .before .before .before .before .before .before .before .before .before .before .pre .1 in search needs
+add-put-word-of c = let w = node-word in let g = c .before .before .before .before .before .before .before .before .before .before .before .pre .0 in let h = c .before .before .before .before .before .before .before .before .before .before .before .pre .1 in search needs
 
 put-word-of-requires : tie.Need-put-word-of-requires
 put-word-of-requires c κs = search needs
 
 add-put-word-of-2 : tie.Need-add-put-word-of-2
-unfolding nodeCeiling
-add-put-word-of-2 c = let g = c .before .before .before .before .before .before .before .before .before .before .before .before .before .before .before .pre .0 in let h = c .before .before .before .before .before .before .before .before .before .before .before .before .before .before .before .pre .1 in search needs
+add-put-word-of-2 c = let w = node-word in let g = c .before .before .before .before .before .before .before .before .before .before .before .before .before .before .before .pre .0 in let h = c .before .before .before .before .before .before .before .before .before .before .before .before .before .before .before .pre .1 in search needs
 
 put-word-of-requires-2 : tie.Need-put-word-of-requires-2
 put-word-of-requires-2 c κs = search needs
@@ -43,7 +38,7 @@ same-length : tie.Need-same-length
 same-length c = search needs
 
 returns : tie.Need-returns
-returns c = turned-is (blockOf (c .before .before .before .before .before .before .before .before .before .before .before .before .before .before .before .before .before .before .args .place) (now (c .before .before .before .before .before .before .before .before .before .before .before .before .before .before .before .before .before .before .args .structure)) (now (c .before .before .before .before .before .before .before .before .before .before .before .before .before .before .before .before .before .before .args .strings))) (now (c .before .before .before .before .before .before .before .before .before .before .before .before .before .before .before .before .before .before .args .work)) (c .before .before .before .before .before .before .before .before .before .before .before .before .before .before .before .before .before .before .args .count) (now (c .before .before .before .before .before .before .before .before .before .before .before .before .before .before .before .before .before .before .args .excl)) (now (c .before .before .before .before .before .before .before .before .before .before .before .before .before .before .before .before .before .before .args .ids)) (c .before .before .before .before .before .before .before .before .before .before .before .before .before .before .before .before .before .before .args .i) (c .before .before .before .before .before .before .before .before .before .before .before .code .result) (c .before .before .before .before .before .before .before .before .before .before .before .code .ensures) _ (ap (λ (y : ℕ). eqb y 1) (word-at (now (c .before .before .before .before .before .before .before .before .before .before .before .before .before .before .before .before .before .before .args .work)) 14336 namesAt (c .before .before .before .before .before .before .before .before .before .before .before .before .before .before .before .before .before .before .args .i) (c .before .before .before .before .before .before .before .before .before .word-of .result) names-at (c .before .before .before .before .before .before .before .before .before .word-of .ensures))) (c .before .before .before .before .before .before .before .before .taken .result) (c .before .before .before .before .before .before .before .before .taken .ensures) (c .before .before .before .before .before .before .put-word-of .last .0) (put-at (now (c .before .before .before .before .before .before .before .before .before .before .before .before .before .before .before .before .before .before .args .work)) (c .before .before .before .before .before .before .put-word-of .last .0) 12288 stackAt (c .before .before .before .before .before .before .before .before .before .before .before .before .before .before .before .before .before .before .args .i) (c .before .before .before .before .before .before .before .before .before .before .before .code .result) stack-at (c .before .before .before .before .before .before .put-word-of .ensures)) _ (put-at (c .before .before .before .before .before .before .put-word-of .last .0) _ 8192 marksAt (c .before .before .before .before .before .before .before .before .before .before .before .before .before .before .before .before .before .before .args .i) (c .before .before .before .before .before .before .before .before .taken .result) marks-at (c .before .before .put-word-of2 .ensures))
+returns c = turned-is (blockOf (c .before .before .before .before .before .before .before .before .before .before .before .before .before .before .before .before .before .before .args .place) (now (c .before .before .before .before .before .before .before .before .before .before .before .before .before .before .before .before .before .before .args .structure)) (now (c .before .before .before .before .before .before .before .before .before .before .before .before .before .before .before .before .before .before .args .strings))) (now (c .before .before .before .before .before .before .before .before .before .before .before .before .before .before .before .before .before .before .args .work)) (c .before .before .before .before .before .before .before .before .before .before .before .before .before .before .before .before .before .before .args .count) (now (c .before .before .before .before .before .before .before .before .before .before .before .before .before .before .before .before .before .before .args .excl)) (now (c .before .before .before .before .before .before .before .before .before .before .before .before .before .before .before .before .before .before .args .ids)) (c .before .before .before .before .before .before .before .before .before .before .before .before .before .before .before .before .before .before .args .i) (c .before .before .before .before .before .before .before .before .before .before .before .code .result) (c .before .before .before .before .before .before .before .before .before .before .before .code .ensures) _ (ap (λ (y : ℕ). eqb y 1) (word-in-part names-at (now (c .before .before .before .before .before .before .before .before .before .before .before .before .before .before .before .before .before .before .args .work)) (c .before .before .before .before .before .before .before .before .before .before .before .before .before .before .before .before .before .before .args .i) (c .before .before .before .before .before .before .before .before .before .word-of .result) (c .before .before .before .before .before .before .before .before .before .word-of .ensures))) (c .before .before .before .before .before .before .before .before .taken .result) (c .before .before .before .before .before .before .before .before .taken .ensures) (c .before .before .before .before .before .before .put-word-of .last .0) (put-in-part stack-at (now (c .before .before .before .before .before .before .before .before .before .before .before .before .before .before .before .before .before .before .args .work)) (c .before .before .before .before .before .before .put-word-of .last .0) (c .before .before .before .before .before .before .before .before .before .before .before .before .before .before .before .before .before .before .args .i) (c .before .before .before .before .before .before .before .before .before .before .before .code .result) (c .before .before .before .before .before .before .put-word-of .ensures)) _ (put-in-part marks-at (c .before .before .before .before .before .before .put-word-of .last .0) _ (c .before .before .before .before .before .before .before .before .before .before .before .before .before .before .before .before .before .before .args .i) (c .before .before .before .before .before .before .before .before .taken .result) (c .before .before .put-word-of2 .ensures))
 
 pub pick-spec : {M : Type 1} → statement M
 pick-spec = tie.close (tie.spec code-requires add-word-of word-of-requires taken-requires add-put-word-of put-word-of-requires add-put-word-of-2 put-word-of-requires-2 same-length returns)

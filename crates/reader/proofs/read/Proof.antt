@@ -5,7 +5,7 @@ use lib.ListN.{length}
 use denote.Ref.{now}
 use Rattle.rules.specs.Ceilings.{workWords}
 use Rattle.reader.specs.Answers.{meaning}
-use Rattle.reader.specs.Header.{Heads}
+use Rattle.header.specs.Header.{Heads}
 use Rattle.reader.proofs.Joined.{no-space, clear-long, clear-again, head-refused, read-answer, read-refused, read-nodes}
 use borrow.Author.Needs.{needs}
 use Rattle.reader.proofs.read.Statement.{statement}
@@ -23,6 +23,9 @@ judge-requires c κs = search needs
 
 enum-known-refusal : tie.Need-enum-known-refusal
 enum-known-refusal c = search needs
+
+by-header-requires : tie.Need-by-header-requires
+by-header-requires c κs = search needs
 
 enum-known-parts : tie.Need-enum-known-parts
 enum-known-parts c = search needs
@@ -52,7 +55,9 @@ same-length-2 c = search needs
 
 returns-3 : tie.Need-returns-3
 unfolding workWords
-returns-3 c = head-refused (now (c .before .before .before .before .before .before .before .before .before .before .before .args .blob)) (now (c .before .before .before .before .before .before .before .before .before .before .before .args .work)) (c .before .before .before .before .before .before .before .before .if1 .left) (c .before .before .before .before .before .before .clear .ensures) (c .before .refusal .given .0 .0) (subst (Heads (now (c .before .before .before .before .before .before .before .before .before .before .before .args .blob))) (c .before .refusal .given .1) (c .before .before .before .judge .ensures))
+returns-3 c =
+    head-refused (now (c .before .before .before .before .before .before .before .before .before .before .before .before .args .blob)) (now (c .before .before .before .before .before .before .before .before .before .before .before .before .args .work)) (c .before .before .before .before .before .before .before .before .before .if1 .left) (c .before .before .before .before .before .before .before .clear .ensures) (c .by-header .result) (c .before .before .refusal .given .0 .0) (c .by-header .ensures)
+    (subst (Heads (now (c .before .before .before .before .before .before .before .before .before .before .before .before .args .blob))) (c .before .before .refusal .given .1) (c .before .before .before .before .judge .ensures))
 
 same-length-3 : tie.Need-same-length-3
 same-length-3 c = search needs
@@ -62,4 +67,4 @@ unfolding workWords
 returns-4 c = (sym (ap meaning (c .before .answer .given .1)) ∙ read-answer (now (c .before .before .before .before .before .before .before .before .before .before .before .before .before .before .before .before .before .before .args .blob)) (now (c .before .before .before .before .before .before .before .before .before .before .before .before .before .before .before .before .before .before .args .work)) (c .before .before .before .before .before .before .before .before .before .before .before .before .before .before .before .if1 .left) (c .before .before .before .before .before .before .before .before .before .before .before .before .before .clear .ensures) (subst (Heads (now (c .before .before .before .before .before .before .before .before .before .before .before .before .before .before .before .before .before .before .args .blob))) (c .before .before .before .before .before .before .before .before .parts .given .1) (c .before .before .before .before .before .before .before .before .before .before .judge .ensures) .judged) (c .before .before .before .before .before .blocks2 .ensures), read-nodes (now (c .before .before .before .before .before .before .before .before .before .before .before .before .before .before .before .before .before .before .args .blob)) (now (c .before .before .before .before .before .before .before .before .before .before .before .before .before .before .before .before .before .before .args .work)) (c .before .before .before .before .before .before .before .before .before .before .before .before .before .before .before .if1 .left) (c .before .before .before .before .before .before .before .before .before .before .before .before .before .clear .ensures) (subst (Heads (now (c .before .before .before .before .before .before .before .before .before .before .before .before .before .before .before .before .before .before .args .blob))) (c .before .before .before .before .before .before .before .before .parts .given .1) (c .before .before .before .before .before .before .before .before .before .before .judge .ensures) .judged) (c .before .before .before .before .before .blocks2 .ensures) (c .before .answer .given .1))
 
 pub read-spec : {M : Type 1} → statement M
-read-spec = tie.close (tie.spec returns clear-requires judge-requires enum-known-refusal enum-known-parts blocks-requires enum-known-answer enum-told clear-requires-2 same-length returns-2 same-length-2 returns-3 same-length-3 returns-4)
+read-spec = tie.close (tie.spec returns clear-requires judge-requires enum-known-refusal by-header-requires enum-known-parts blocks-requires enum-known-answer enum-told clear-requires-2 same-length returns-2 same-length-2 returns-3 same-length-3 returns-4)

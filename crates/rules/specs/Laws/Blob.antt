@@ -13,7 +13,7 @@ use Rattle.rules.specs.Octets.{Bytes, longAt}
 use Rattle.rules.specs.Outcome.{passes, first}
 use Rattle.rules.specs.Reservations.{Entry}
 use Rattle.rules.specs.Blob.{Header, headerIn, entriesFrom, entriesIn, missing, misplaced, headerJudged, blockIn}
-use Rattle.rules.specs.Laws.Tests.{by-le, never, or-false}
+use Rattle.rules.specs.Laws.Tests.{by-test, by-le, never, or-false}
 use Rattle.rules.specs.Laws.Octets.{word-past}
 
 -- ---- reservations
@@ -65,6 +65,12 @@ entries-on : (fuel : ℕ) (b : Bytes) (at limit : ℕ) → at + 16 ≤ limit →
     → missing (entriesFrom (suc fuel) b at limit) ≡ missing (entriesFrom fuel b (at + 16) limit)
 entries-on fuel b at limit h e = ap missing (entries-more b fuel at limit (le-ltb limit (at + 16) h) e) ∙ missing-map _ (entriesFrom fuel b (at + 16) limit)
 
+-- where they are not cut, there is room for one
+entries-fit : (b : Bytes) (fuel at limit : ℕ) → missing (entriesFrom (suc fuel) b at limit) ≡ false → at + 16 ≤ limit
+entries-fit b fuel at limit h = by-test (ltb limit (at + 16))
+    (λ e. never true refl (rw (entries-cut b fuel at limit e) at h))
+    (λ e. ltb-false limit (at + 16) e)
+
 -- a loop over them: the rest, from here on, is the whole
 pub record Searched (b : Bytes) (from limit at : ℕ) : Type 0 where
   pub fuel : ℕ
@@ -93,6 +99,8 @@ pub record Inside (b : Bytes) : Type 0 where
   pub small : headerIn b .total ≤ blobCeiling
   pub apart : headerIn b .structure + headerIn b .structureSize ≤ headerIn b .strings
   pub last : headerIn b .strings + headerIn b .stringsSize ≤ headerIn b .total
+  pub reservations : 40 ≤ headerIn b .reservations
+  pub entries : headerIn b .reservations + 16 ≤ headerIn b .structure
 
 -- what five tests in order, and seven at once, say where they pass
 pub five-passed : (a b c d e : Bool)
@@ -111,13 +119,15 @@ five-passed false false false true e h = let z : _≡_ {A = ℕ} 0 1 = cc in abs
 five-passed false false false false true h = let z : _≡_ {A = ℕ} 0 1 = cc in absurd (omega arith)
 five-passed false false false false false h = (refl, refl, refl)
 
-seven-passed : (a b c d e f g : Bool) → (a || b || c || d || e || f || g) ≡ false → (f ≡ false) × (g ≡ false)
+seven-passed : (a b c d e f g : Bool) → (a || b || c || d || e || f || g) ≡ false → (a ≡ false) × (e ≡ false) × (f ≡ false) × (g ≡ false)
 seven-passed a b c d e f g h =
     let p = or-false (a || b || c || d || e || f) g h in
-    (or-false (a || b || c || d || e) f (p .0) .1, p .1)
+    let q = or-false (a || b || c || d || e) f (p .0) in
+    let r = or-false (a || b || c || d) e (q .0) in
+    (or-false a b (or-false (a || b) c (or-false (a || b || c) d (r .0) .0) .0) .0, r .1, q .1, p .1)
 
 pub header-inside : (b : Bytes) → headerJudged b ≡ passes → Inside b
-unfolding headerJudged misplaced
+unfolding headerJudged misplaced entriesIn
 header-inside b e =
     let h : Header = headerIn b in
     let p =
@@ -130,8 +140,10 @@ header-inside b e =
       long = ltb-false (length b) 40 (p .0);
       total = ltb-false (length b) (h .total) (u .1);
       small = ltb-false blobCeiling (h .total) (t .1);
-      apart = ltb-false (h .strings) (h .structure + h .structureSize) (m .0);
-      last = ltb-false (h .total) (h .strings + h .stringsSize) (m .1);
+      apart = ltb-false (h .strings) (h .structure + h .structureSize) (m .2);
+      last = ltb-false (h .total) (h .strings + h .stringsSize) (m .3);
+      reservations = ltb-false (h .reservations) 40 (m .0);
+      entries = entries-fit b (length b) (h .reservations) (h .structure) (m .1);
     }
 
 -- the structure block ends inside the blob

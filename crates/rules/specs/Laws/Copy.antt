@@ -9,13 +9,13 @@ use lib.ListN.{length}
 use lib.Dec.{eqb}
 use borrow.Author.Tests.{eqb-true, eqb-false, eq-eqb, not-true}
 use Rattle.rules.specs.Octets.{ascii, same}
-use Rattle.rules.specs.Lists.{keep}
+use Rattle.rules.specs.Lists.{any, keep}
 use Rattle.rules.specs.Tree.{Tree, node, below, climb, Frame, frame, numbers}
 use Rattle.rules.specs.References.{Rules}
 use Rattle.rules.specs.Listing.{_∈_, within, listed}
 use Rattle.rules.specs.Copy.{Asked, near, null, isCpus, stranger, picked, copied}
 use Rattle.rules.specs.Laws.Tests.{by-test, or-cases, or-left, or-right, or-false, and-true}
-use Rattle.rules.specs.Laws.Lists.{keep-of, any-yes, yes-any}
+use Rattle.rules.specs.Laws.Lists.{keep-of, any-yes, yes-any, any-or}
 use Rattle.rules.specs.Laws.Paths.{Formed, by-parent, below-step}
 use Rattle.rules.specs.Laws.Listing.{within-spared, spared-within}
 
@@ -91,6 +91,11 @@ module _ (t : Tree) (w : Formed t) where
         ])
       ]
 
+-- near some nodes is within them, or above one
+pub near-split : (t : Tree) (ls : List ℕ) (i : ℕ) → near (frame t) ls i ≡ (within (frame t) ls i || any (below t i) ls)
+unfolding near within
+near-split t ls i = any-or (λ (j : ℕ). eqb i j || below t j i) (below t i) ls
+
 module _ (q : Asked) (f : Frame) (strange : ℕ → Bool) (ls : List ℕ) (i : ℕ) where
   abbrev all : List ℕ
   all = numbers f
@@ -104,7 +109,12 @@ module _ (q : Asked) (f : Frame) (strange : ℕ → Bool) (ls : List ℕ) (i : �
   unfolding picked
   picked-else e = rw (e, picked)
 
-isCpus-up : (f : Frame) (i : ℕ) → isCpus f i ≡ true → eqb (f .up i) 0 ≡ true
+-- the root is not `/cpus`, and `/cpus` is a child of the root
+pub cpus-root : (f : Frame) → isCpus f 0 ≡ false
+unfolding isCpus
+cpus-root f = refl
+
+pub isCpus-up : (f : Frame) (i : ℕ) → isCpus f i ≡ true → eqb (f .up i) 0 ≡ true
 unfolding isCpus
 isCpus-up f i e = and-true (not (eqb i 0)) (eqb (f .up i) 0) (and-true (not (eqb i 0) && eqb (f .up i) 0) (same (f .name i) (ascii "cpus")) e .0) .1
 

@@ -17,8 +17,8 @@ use Rattle.rules.specs.declared.Token.the-variants.{Item, End}
 use Rattle.rules.specs.declared.Kind.the-variants.{Begin, EndNode, Prop}
 use Rattle.rules.specs.Listing.{_∈_}
 use Rattle.rules.specs.Laws.Tests.{by-test, and-true}
-use Rattle.rules.specs.Laws.Octets.{length-be64, part-between, word-be32, long-be64, length-filled, length-be32, begins-split, nul-closed}
-use Rattle.rules.specs.Laws.Writer.{length-closed, offset-le}
+use Rattle.rules.specs.Laws.Octets.{length-be64, part-between, word-be32, long-be64, length-be32, begins-split, nul-closed}
+use Rattle.rules.specs.Laws.Writer.{length-begin, length-property, headBytes, length-head, offset-le}
 use Rattle.rules.specs.Laws.Lists.{mem-at}
 
 -- ---- words
@@ -97,16 +97,9 @@ module _ (p r name : Bytes) (at : ℕ) (e : length p ≡ at) (plain : 0 ∈ name
   begin-is-begun = ap (λ (b : Bytes). p ++ b) (append-assoc (be32 1) (filled (closed name)) r)
 
   begun-length : length begun ≡ at + 4 + padded (length name + 1) + length r
-  unfolding begun
   begun-length =
-      rw (
-        length-append p (be32 1 ++ (filled (closed name) ++ r)),
-        length-append (be32 1) (filled (closed name) ++ r),
-        length-append (filled (closed name)) r,
-        length-be32 1,
-        length-filled (closed name),
-        length-closed name,
-      ) (omega arith)
+      ap length (sym begin-is-begun)
+      ∙ rw (length-append p (beginBytes name ++ r), length-append (beginBytes name) r, length-begin name) (omega arith)
 
   begun-behind : (t : Bytes) × (drop (at + 4) begun ≡ name ++ (0 ∷ t))
   unfolding begun
@@ -137,35 +130,18 @@ module _ (p r value : Bytes) (offset at : ℕ) (e : length p ≡ at) (small : le
   property-is-set = simp append-assoc
 
   set-length : length set ≡ at + 4 + 8 + padded (length value) + length r
-  unfolding set
   set-length =
-      rw (
-        length-append p _,
-        length-append (be32 3) _,
-        length-append (be32 (length value)) _,
-        length-append (be32 offset) _,
-        length-append (filled value) r,
-        length-be32 3,
-        length-be32 (length value),
-        length-be32 offset,
-        length-filled value,
-      ) (omega arith)
+      ap length (sym property-is-set)
+      ∙ rw (length-append p (propertyBytes offset value ++ r), length-append (propertyBytes offset value) r, length-property offset value) (omega arith)
 
   set-behind : drop (at + 4 + 8) set ≡ filled value ++ r
   unfolding set
   set-behind =
-      let a : Bytes = be32 3 ++ (be32 (length value) ++ be32 offset) in
+      let a : Bytes = headBytes (length value) offset in
       let q : p ++ (be32 3 ++ (be32 (length value) ++ (be32 offset ++ (filled value ++ r)))) ≡ p ++ (a ++ (filled value ++ r)) = simp append-assoc in
       let n : at + 4 + 8 ≡ at + 12 = omega arith in
       rw (q, n)
-      (behind-two p a (filled value ++ r) at 12 e
-      (rw (
-        length-append (be32 3) (be32 (length value) ++ be32 offset),
-        length-append (be32 (length value)) (be32 offset),
-        length-be32 3,
-        length-be32 (length value),
-        length-be32 offset,
-      )))
+      (behind-two p a (filled value ++ r) at 12 e (length-head (length value) offset))
 
   set-word : wordAt set (at + 4) ≡ length value
   unfolding set

@@ -5,7 +5,7 @@ use mathlib.Core.Logic.{inl, inr}
 use mathlib.Core.Bool.{Bool, true, false, _&&_}
 use mathlib.Core.Option.{none, some}
 use mathlib.Core.List.{List, [], _∷_, List·Memᴰ·head, List·Memᴰ·tail, List·Memᴰ·not-nil, List·Memᴰ·cases-cons}
-use Prim.Native.Nat.{ℕ, zero, suc, _+_, _<_}
+use Prim.Native.Nat.{ℕ, zero, suc, _+_, _≤_, _<_}
 use native.Mathlib.Omega.{arith}
 use lib.ListN.{length, List·getD-eq-default}
 use lib.Dec.{eqb}
@@ -203,28 +203,36 @@ module _ (f : Frame) where
   unfolding nodeAmong
   among-past p i is e = rw (e, nodeAmong)
 
-  among-some : (p : Bytes) (is : List ℕ) (x : ℕ) → nodeAmong f p is ≡ some x → (x ∈ is) × (f .path x ≡ p)
+  pub among-some : (p : Bytes) (is : List ℕ) (x : ℕ) → nodeAmong f p is ≡ some x → (x ∈ is) × (f .path x ≡ p)
   unfolding nodeAmong
   among-some p [] x e = let z : _≡_ {A = ℕ} 0 1 = cc in absurd (omega arith)
   among-some p (i ∷ is) x e = by-test (same (f .path i) p)
       (λ s. let q : i ≡ x = cc (among-here p i is s) in (List·Memᴰ·head (sym q), rw (← q) (same-eq (f .path i) p s)))
       (λ s. let r = among-some p is x (sym (among-past p i is s) ∙ e) in (List·Memᴰ·tail (r .0), r .1))
 
-  named-none : (g : Given) (gs : List Given) → nodeAt f (g .path) ≡ none → nodesNamed f (g ∷ gs) ≡ nodesNamed f gs
+  pub named-skip : (g : Given) (gs : List Given) → nodeAt f (g .path) ≡ none → nodesNamed f (g ∷ gs) ≡ nodesNamed f gs
   unfolding nodesNamed
-  named-none g gs e = rw (e, nodesNamed)
+  named-skip g gs e = rw (e, nodesNamed)
 
-  named-some : (g : Given) (gs : List Given) (i : ℕ) → nodeAt f (g .path) ≡ some i → nodesNamed f (g ∷ gs) ≡ i ∷ nodesNamed f gs
+  pub named-step : (g : Given) (gs : List Given) (i : ℕ) → nodeAt f (g .path) ≡ some i → nodesNamed f (g ∷ gs) ≡ i ∷ nodesNamed f gs
   unfolding nodesNamed
-  named-some g gs i e = rw (e, nodesNamed)
+  named-step g gs i e = rw (e, nodesNamed)
+
+  -- no more nodes than entries
+  pub named-few : (gs : List Given) → length (nodesNamed f gs) ≤ length gs
+  unfolding nodesNamed
+  named-few [] = omega arith
+  named-few (g ∷ gs) = by-option (nodeAt f (g .path))
+      (λ e. omega (arith, named-few gs, ap length (named-skip g gs e)))
+      (λ i e. omega (arith, named-few gs, ap length (named-step g gs i e)))
 
   -- a node that a list names is a node, with a path of the list
   pub named-mem : (gs : List Given) (x : ℕ) → x ∈ nodesNamed f gs → (x < f .size) × ((g : Given) × (g ∈ gs) × (f .path x ≡ g .path))
   unfolding nodesNamed
   named-mem [] x m = absurd (List·Memᴰ·not-nil m)
   named-mem (g ∷ gs) x m = by-option (nodeAt f (g .path))
-      (λ e. past (named-mem gs x (rw (named-none g gs e) at m)))
-      (λ i e. elim (List·Memᴰ·cases-cons (rw (named-some g gs i e) at m)) [
+      (λ e. past (named-mem gs x (rw (named-skip g gs e) at m)))
+      (λ i e. elim (List·Memᴰ·cases-cons (rw (named-step g gs i e) at m)) [
         | inl q ↦
             let r = among-some (g .path) (numbers f) i e in
             (omega (arith, numbers-mem 0 (f .size) i (r .0) .1), (g, List·Memᴰ·head refl, rw q (r .1)))
@@ -261,8 +269,8 @@ module _ (f : Frame) where
       let s = configured-step seen g gs h in
       let d = named-distinct (g .path ∷ seen) gs (s .1) in
       by-option (nodeAt f (g .path))
-      (λ e. rw (named-none g gs e) d)
-      (λ i e. rw (named-some g gs i e)
+      (λ e. rw (named-skip g gs e) d)
+      (λ i e. rw (named-step g gs i e)
       (more (λ m. let r = named-mem gs i m in
       configured-new (g .path ∷ seen) (s .1) (r .1 .1) (g .path) (List·Memᴰ·head refl) (sym (r .1 .2) ∙ among-some (g .path) (numbers f) i e .1)) d))
 

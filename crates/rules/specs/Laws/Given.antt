@@ -1,20 +1,26 @@
 -- The laws of path lists: the entries from a place on without their fuel, and how they are judged one by one.
 use mathlib.Core.Path.{_≡_, refl, sym, ap, ap₂, _∙_}
-use mathlib.Core.Bool.{true, false}
-use mathlib.Core.List.{List, [], _∷_}
+use mathlib.Core.Bool.{Bool, true, false}
+use mathlib.Core.List.{List, [], _∷_, _++_}
+use mathlib.Core.Option.{some}
 use Prim.Native.Nat.{ℕ, zero, suc, _+_, _-_, _≤_, _<_}
 use native.Mathlib.Nat.{add-assoc}
 use native.Mathlib.Omega.{arith}
-use lib.Dec.{ltb}
+use lib.Dec.{eqb, ltb}
 use lib.ListN.{length, take, drop, length-drop, drop-of-length-le}
 use lib.Seq.{drop-drop}
-use borrow.Author.Tests.{le-leb}
+use borrow.Author.Tests.{le-leb, eq-eqb, ne-eqb}
 use Rattle.rules.specs.Ceilings.{entryCeiling}
-use Rattle.rules.specs.Octets.{Bytes, part, nulIn, hasNul}
-use Rattle.rules.specs.Outcome.{passes, refuses}
-use Rattle.rules.specs.Derivation.{Given, givenFrom, given, pathAtFault, pathsJudged}
-use Rattle.rules.specs.Laws.Tests.{by-le, never}
-use Rattle.rules.specs.Laws.Octets.{nul-le}
+use Rattle.rules.specs.Octets.{Bytes, part, nulIn, hasNul, same}
+use Rattle.rules.specs.Lists.{oneOf}
+use Rattle.rules.specs.Outcome.{passes, refuses, _then_}
+use Rattle.rules.specs.Derivation.{Request, Given, givenFrom, given, pathAtFault, pathsJudged, listsJudged, nodeAt, repeats}
+use Rattle.rules.specs.Tree.{Frame, numbers}
+use Rattle.rules.specs.Laws.Tests.{by-test, by-le, never}
+use Rattle.rules.specs.Laws.Verdicts.{gives-refuses, then-passes}
+use Rattle.rules.specs.Laws.Octets.{nul-le, same-eq, eq-same}
+use Rattle.rules.specs.Laws.Lists.{one-last}
+use Rattle.rules.specs.Laws.Formed.{among-some}
 
 -- ---- the entries from a place on
 
@@ -96,3 +102,43 @@ fault-many index g h = rw (le-leb entryCeiling index h)
 
 pub fault-index : (index : ℕ) (g : Given) → pathAtFault index g ≡ false → index < entryCeiling
 fault-index index g e = by-le entryCeiling index (λ h. never (pathAtFault index g) (fault-many index g h) e) (λ h. h)
+
+-- a list that passes has no more entries than the ceiling
+paths-few : (index : ℕ) (gs : List Given) → index ≤ entryCeiling → pathsJudged index gs ≡ passes → index + length gs ≤ entryCeiling
+paths-few index [] h e = omega arith
+paths-few index (g ∷ gs) h e = by-test (pathAtFault index g)
+    (λ f. gives-refuses tt 41 (g .offset) (sym (paths-fault index g gs f) ∙ e))
+    (λ f. let k : index < entryCeiling = fault-index index g f in
+    let r : suc index + length gs ≤ entryCeiling = paths-few (suc index) gs (omega arith) (sym (paths-good index g gs f) ∙ e) in
+    omega arith)
+
+pub lists-few : (q : Request) → listsJudged q ≡ passes → (length (given (q .configured)) ≤ entryCeiling) × (length (given (q .excluded)) ≤ entryCeiling)
+unfolding listsJudged
+lists-few q e =
+    let a = then-passes (pathsJudged 0 (given (q .configured))) _ tt e in
+    let b = then-passes (pathsJudged 0 (given (q .excluded))) _ tt (a .1) in
+    (omega (arith, paths-few 0 (given (q .configured)) (omega arith) (a .0)), omega (arith, paths-few 0 (given (q .excluded)) (omega arith) (b .0)))
+
+-- ---- a path repeats exactly if its node does
+
+module _ (f : Frame) where
+  pub path-at : (p : Bytes) (i : ℕ) → nodeAt f p ≡ some i → f .path i ≡ p
+  path-at p i e = among-some f p (numbers f) i e .1
+
+  same-node : (p q : Bytes) (i j : ℕ) → nodeAt f p ≡ some i → nodeAt f q ≡ some j → same p q ≡ eqb i j
+  same-node p q i j d e = by-test (same p q)
+      (λ s. let k : p ≡ q = same-eq p q s in let l : i ≡ j = cc (d, e, k) in s ∙ sym (eq-eqb i j l))
+      (λ s. s ∙ sym (ne-eqb i j (λ l. let k : p ≡ q = sym (path-at p i d) ∙ ap (f .path) l ∙ path-at q j e in
+      absurd (let z : _≡_ {A = Bool} true false = sym (eq-same p q k) ∙ s in let y : _≡_ {A = ℕ} 0 1 = cc z in omega (arith, y)))))
+
+  -- these paths name these nodes
+  abbrev pub Told : List Bytes → List ℕ → Type 0
+  Told seen nodes = (p : Bytes) (i : ℕ) → nodeAt f p ≡ some i → repeats p seen ≡ oneOf i nodes
+
+  pub told-none : Told [] []
+  unfolding repeats oneOf
+  told-none p i e = refl
+
+  pub told-more : (seen : List Bytes) (nodes : List ℕ) (q : Bytes) (j : ℕ) → Told seen nodes → nodeAt f q ≡ some j → Told (q ∷ seen) (nodes ++ (j ∷ []))
+  unfolding repeats
+  told-more seen nodes q j t e p i d = rw (same-node p q i j d e, t p i d) (sym (one-last i nodes j))

@@ -22,7 +22,7 @@ use Rattle.rules.specs.References.{Rules}
 use Rattle.rules.specs.Listing.{_∈_, listed}
 use Rattle.rules.specs.Copy.{copied, guestEvents}
 use Rattle.rules.specs.Derivation.{Request, asked}
-use Rattle.rules.specs.Demands.{Fits, Granted, Plain, plain}
+use Rattle.rules.specs.Demands.{Fits, Granted, plain, rank}
 use Rattle.rules.specs.Laws.Tests.{never, and-true, or-cases, or-left, or-right, true-and, not-passed}
 use Rattle.rules.specs.Laws.Lists.{keep-yes, keep-no}
 use Rattle.rules.specs.Laws.References.{by-option}
@@ -33,7 +33,7 @@ use Rattle.rules.specs.Laws.Listing.{listed-small}
 use Rattle.rules.specs.Laws.Listed.{configured-granted}
 use Rattle.rules.specs.Laws.Copy.{copied-root, copied-parent}
 use Rattle.rules.specs.Laws.Nested.{Nested, finished, root, events-pass, events-nested, nested-events}
-use Rattle.rules.specs.Laws.Sieve.{rank, rank-inj, CopyOf, Picked, nothing, keeping, leaving, Upward, sieve-nested, sieve-picked}
+use Rattle.rules.specs.Laws.Sieve.{rank-inj, CopyOf, Picked, nothing, keeping, leaving, Upward, sieve-nested, sieve-picked}
 
 -- ---- 11 and 12 of a copy
 
@@ -120,18 +120,20 @@ later : (n : ℕ) (b : Node) (u : Tree) (f : ℕ → Node) → ((j : ℕ) → j 
     → (j : ℕ) → j < length u → node u j ≡ f (suc n + j)
 later n b u f h j l = let e : n + suc j ≡ suc n + j = omega arith in rw e at (h (suc j) (omega arith))
 
-plain-picked : {k : ℕ → Bool} {next : ℕ} {t u : Tree} (f : ℕ → Node) → Picked k next t u → ((j : ℕ) → j < length u → node u j ≡ f (next + j))
-    → map plain t ≡ map (λ (i : ℕ). plain (f i)) (keep k (numbersFrom next (length u)))
+-- what is the same of a node and its copy, read off all copies
+told-picked : {A : Type 0} {k : ℕ → Bool} (of from : Node → A) → ((a b : Node) → CopyOf k a b → of a ≡ from b) → {next : ℕ} {t u : Tree} (f : ℕ → Node)
+    → Picked k next t u → ((j : ℕ) → j < length u → node u j ≡ f (next + j))
+    → map of t ≡ map (λ (i : ℕ). from (f i)) (keep k (numbersFrom next (length u)))
 unfolding numbersFrom keep
-plain-picked f nothing h = refl
-plain-picked {k} f (keeping {next = n} {a = a} {b = b} {t = t} {u = u} y c p) h =
+told-picked of from same f nothing h = refl
+told-picked {A} {k} of from same f (keeping {next = n} {a = a} {b = b} {t = t} {u = u} y c p) h =
     rw (keep-yes k n (numbersFrom (suc n) (length u)) y)
-    (ap₂ (λ (x : Plain) (l : List Plain). x ∷ l) (copy-plain k a b c ∙ ap plain (here (h 0 (omega arith)))) (plain-picked f p (later n b u f h)))
+    (ap₂ (λ (x : A) (l : List A). x ∷ l) (same a b c ∙ ap from (here (h 0 (omega arith)))) (told-picked of from same f p (later n b u f h)))
   where
     here : b ≡ f (n + 0) → b ≡ f n
     here e = rw add-zero at e
-plain-picked {k} f (leaving {next = n} {b = b} {t = t} {u = u} y p) h =
-    rw (keep-no k n (numbersFrom (suc n) (length u)) y) (plain-picked f p (later n b u f h))
+told-picked {A} {k} of from same f (leaving {next = n} {b = b} {t = t} {u = u} y p) h =
+    rw (keep-no k n (numbersFrom (suc n) (length u)) y) (told-picked of from same f p (later n b u f h))
 
 -- ---- the guest's events
 
@@ -190,4 +192,8 @@ module _ (r : Rules) (host : Bytes) (q : Request) (g : Granted host q) where
 
   -- IT HAS THE COPIED NODES' NAMES, PROPERTIES, VALUES AND ORDER
   pub guest-plain : map plain (nodesOf guest) ≡ map (λ (i : ℕ). plain (node t i)) (keep k (numbers (frame t)))
-  guest-plain = plain-picked (node t) guest-picked (λ j h. rw zero-add)
+  guest-plain = told-picked plain plain (copy-plain k) (node t) guest-picked (λ j h. rw zero-add)
+
+  -- EACH COPY'S PARENT IS THE COPY OF ITS NODE'S PARENT
+  pub guest-parents : map (λ (n : Node). n .parent) (nodesOf guest) ≡ map (λ (i : ℕ). rank k (node t i .parent)) (keep k (numbers (frame t)))
+  guest-parents = told-picked (λ (n : Node). n .parent) (λ (n : Node). rank k (n .parent)) (λ a b c. c .parent) (node t) guest-picked (λ j h. rw zero-add)

@@ -10,8 +10,8 @@ use Rattle.rules.specs.Reader.{eventsRead, treeRead}
 use Rattle.rules.specs.Copy.{guestEvents, guestBytes}
 use Rattle.rules.specs.Derivation.{asked, guestOf}
 use Rattle.rules.specs.Demands.{GuestIsCopy}
-use Rattle.rules.specs.Laws.Moved.{moved-plain}
-use Rattle.rules.specs.Laws.Guest.{guest-fits, guest-plain}
+use Rattle.rules.specs.Laws.Moved.{moved-plain, moved-parents}
+use Rattle.rules.specs.Laws.Guest.{guest-fits, guest-plain, guest-parents}
 use Rattle.rules.specs.Laws.BlobBack.{reads-back, nodes-back}
 
 none-invalid : anyInvalid [] ≡ false
@@ -25,4 +25,5 @@ guest-is-copy r host q g h =
     let es : List Event = guestEvents r (asked (frame (treeRead host)) q) (treeRead host) (eventsRead host) in (
       reads-back [] 0 es none-invalid (omega arith) (guest-fits r host q g) h,
       moved-plain (nodes-back [] 0 es none-invalid (omega arith) (guest-fits r host q g) h) ∙ guest-plain r host q g,
+      moved-parents (nodes-back [] 0 es none-invalid (omega arith) (guest-fits r host q g) h) ∙ guest-parents r host q g,
     )

@@ -1,64 +1,23 @@
--- The laws of the header and the reservations: what a header that passes says, and that one that was written passes.
+-- The laws of the header and the reservations: a header that was written passes.
 use mathlib.Core.Path.{_≡_, refl, sym, ap, _∙_}
-use mathlib.Core.Bool.{Bool, true, false, not, _&&_, _||_}
+use mathlib.Core.Bool.{false, _&&_}
 use mathlib.Core.Option.{some}
 use mathlib.Core.List.{List, [], _∷_, _++_, append-assoc}
-use Prim.Native.Nat.{ℕ, zero, suc, _+_, _*_, _%_, _^_, _≤_, _<_}
+use Prim.Native.Nat.{ℕ, zero, suc, _+_, _*_, _^_, _<_}
 use native.Mathlib.Omega.{arith}
 use lib.ListN.{length, getD, length-append}
 use lib.Seq.{getD-append-add}
-use lib.Dec.{eqb, leb, ltb}
-use borrow.Author.Tests.{ltb-false, leb-false, eqb-false, le-ltb, ne-eqb}
-use Rattle.rules.specs.Ceilings.{blobCeiling}
+use lib.Dec.{eqb, leb}
+use borrow.Author.Tests.{leb-false, eqb-false, le-ltb, ne-eqb}
 use Rattle.rules.specs.Octets.{Bytes, wordAt, longAt, be32, be64, words32}
-use Rattle.rules.specs.Outcome.{passes}
 use Rattle.rules.specs.Reservations.{Entry, invalid, anyInvalid, entryBytes, block}
-use Rattle.rules.specs.Blob.{Header, headerIn, entriesFrom, entriesIn, missing, misplaced, headerJudged}
+use Rattle.rules.specs.Blob.{headerIn, entriesFrom}
 use Rattle.rules.specs.Writer.{headerBytes}
-use Rattle.rules.specs.Laws.Tests.{by-test, never, or-false, and-none}
+use Rattle.rules.specs.Laws.Tests.{or-false, and-none}
 use Rattle.rules.specs.Laws.Octets.{length-be32, length-be64}
 use Rattle.rules.specs.Laws.Encoded.{word-at, long-at}
 use Rattle.rules.specs.Laws.Writer.{length-words32}
-use Rattle.rules.specs.Laws.Blob.{entries-cut, entries-last, entries-more, five-passed}
-
--- ---- what a header that passes says
-
-pub record Laid (b : Bytes) : Type 0 where
-  pub reservations : 40 ≤ headerIn b .reservations
-  pub entries : headerIn b .reservations + 16 ≤ headerIn b .structure
-  pub strings : headerIn b .structure + headerIn b .structureSize ≤ headerIn b .strings
-  pub total : headerIn b .strings + headerIn b .stringsSize ≤ headerIn b .total
-  pub lent : headerIn b .total ≤ length b
-
-module _ (b : Bytes) (fuel at limit : ℕ) where
-  entries-fit : missing (entriesFrom (suc fuel) b at limit) ≡ false → at + 16 ≤ limit
-  entries-fit h = by-test (ltb limit (at + 16))
-      (λ e. never true refl (rw (entries-cut b fuel at limit e) at h))
-      (λ e. ltb-false limit (at + 16) e)
-
-pub header-laid : (b : Bytes) → headerJudged b ≡ passes → Laid b
-unfolding headerJudged misplaced entriesIn
-header-laid b h =
-    let v : Header = headerIn b in
-    let large : Bool = ltb (v .total) 40 || ltb (length b) (v .total) || ltb blobCeiling (v .total) in
-    let f =
-    five-passed (ltb (length b) 40) (not (eqb (v .magic) 0xd00dfeed)) large (not (eqb (v .version) 17) || not (eqb (v .compatible) 16))
-    (misplaced b) h in
-    let m₁ = or-false _ (ltb (v .total) (v .strings + v .stringsSize)) (f .2) in
-    let m₂ = or-false _ (ltb (v .strings) (v .structure + v .structureSize)) (m₁ .0) in
-    let m₃ = or-false _ (missing (entriesIn b)) (m₂ .0) in
-    let m₄ = or-false _ (not (eqb (v .structureSize % 4) 0)) (m₃ .0) in
-    let m₅ = or-false _ (not (eqb (v .structure % 4) 0)) (m₄ .0) in
-    let m₆ = or-false _ (not (eqb (v .reservations % 8) 0)) (m₅ .0) in
-    let n₁ = or-false (ltb (v .total) 40 || ltb (length b) (v .total)) (ltb blobCeiling (v .total)) (f .1) in
-    let n₂ = or-false (ltb (v .total) 40) (ltb (length b) (v .total)) (n₁ .0) in
-    record {
-      reservations = ltb-false (v .reservations) 40 (m₆ .0);
-      entries = entries-fit b (length b) (v .reservations) (v .structure) (m₃ .1);
-      strings = ltb-false (v .strings) (v .structure + v .structureSize) (m₂ .1);
-      total = ltb-false (v .total) (v .strings + v .stringsSize) (m₁ .1);
-      lent = ltb-false (length b) (v .total) (n₂ .1);
-    }
+use Rattle.rules.specs.Laws.Blob.{entries-last, entries-more}
 
 -- ---- a header that was written
 

@@ -1,5 +1,6 @@
 -- A work space that keeps the node table of an accepted blob, whatever is written behind it: what the functions over the table may
--- count on, and that writing behind the table takes nothing of it away.
+-- count on, and that writing behind the table takes nothing of it away. The first three sections are all that a proof knows of the
+-- numbers of Ceilings and Space: a change of a number is answered here.
 use mathlib.Core.Path.{_≡_, refl, sym, ap, _∙_}
 use mathlib.Core.List.{List, [], _∷_}
 use Prim.Native.Nat.{ℕ, zero, suc, _+_, _*_, _≤_, _<_}
@@ -7,7 +8,7 @@ use native.Mathlib.Omega.{arith}
 use lib.ListN.{length, getD, drop, length-take, length-drop}
 use lib.Seq.{ext-getD, getD-take, getD-drop}
 use borrow.Author.Tests.{le-ltb}
-use Rattle.rules.specs.Ceilings.{blobCeiling, nodeCeiling, nodeWords, workWords}
+use Rattle.rules.specs.Ceilings.{blobCeiling, nodeCeiling, entryCeiling, nodeWords, workWords}
 use Rattle.rules.specs.Octets.{Bytes, put, lay}
 use Rattle.rules.specs.Outcome.{passes}
 use Rattle.rules.specs.Blob.{Block, headerJudged, blockIn}
@@ -47,10 +48,72 @@ pub names-inside : namesAt ≤ workWords
 unfolding namesAt stackAt listAt marksAt tableWords nodeCeiling nodeWords workWords
 names-inside = omega arith
 
+-- the last of them has a word for each node too
+pub names-room : namesAt + nodeCeiling ≤ workWords
+unfolding namesAt stackAt listAt marksAt tableWords nodeCeiling nodeWords workWords
+names-room = omega arith
+
 -- a row of a node is inside the table
 pub row-inside : (count i k : ℕ) → count ≤ nodeCeiling → i < count → k < 4 → 4 * i + k < tableWords
 unfolding tableWords nodeWords
 row-inside count i k h g l = omega arith
+
+-- ---- what the ceilings fit into
+
+-- a node's number, and how many nodes there are, is a word
+pub node-word : nodeCeiling < 4294967296
+unfolding nodeCeiling
+node-word = omega arith
+
+-- the longest path: each of its nodes has a slash and a name that stands in the blob; and the root's
+abbrev pub longest : ℕ
+longest = nodeCeiling * (blobCeiling + 1) + 1
+
+-- as many of them as there are nodes, each closed by NUL, are counted in 64 bits
+pub paths-counted : nodeCeiling * (longest + 1) < 18446744073709551616
+unfolding nodeCeiling blobCeiling
+paths-counted = omega arith
+
+-- ---- the constants of src/lib.rt are the numbers of the definitions
+
+pub node-ceiling : 2048 ≡ nodeCeiling
+unfolding nodeCeiling
+node-ceiling = refl
+
+pub blob-ceiling : 1048576 ≡ blobCeiling
+unfolding blobCeiling
+blob-ceiling = refl
+
+pub entry-ceiling : 64 ≡ entryCeiling
+unfolding entryCeiling
+entry-ceiling = refl
+
+pub work-words : 16384 ≡ workWords
+unfolding workWords
+work-words = refl
+
+pub marks-at : 8192 ≡ marksAt
+unfolding marksAt tableWords nodeCeiling nodeWords
+marks-at = refl
+
+pub list-at : 10240 ≡ listAt
+unfolding listAt marksAt tableWords nodeCeiling nodeWords
+list-at = refl
+
+pub stack-at : 12288 ≡ stackAt
+unfolding stackAt listAt marksAt tableWords nodeCeiling nodeWords
+stack-at = refl
+
+pub names-at : 14336 ≡ namesAt
+unfolding namesAt stackAt listAt marksAt tableWords nodeCeiling nodeWords
+names-at = refl
+
+-- a word that the code reads at its constant is the one of the part, and one that it puts there is put into the part
+pub word-in-part : {a b : ℕ} → a ≡ b → (ws : List ℕ) (x r : ℕ) → r ≡ getD ws (a + x) 0 → r ≡ getD ws (b + x) 0
+word-in-part e ws x r f = f ∙ ap (λ (k : ℕ). getD ws (k + x) 0) e
+
+pub put-in-part : {a b : ℕ} → a ≡ b → (ws vs : List ℕ) (x v : ℕ) → vs ≡ lay ws (a + x) (v ∷ []) → vs ≡ lay ws (b + x) (v ∷ [])
+put-in-part e ws vs x v f = f ∙ ap (λ (k : ℕ). lay ws (k + x) (v ∷ [])) e
 
 -- ---- what is kept
 

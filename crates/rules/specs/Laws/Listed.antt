@@ -9,6 +9,10 @@ use Rattle.rules.specs.Laws.Verdicts.{then-passes}
 use Rattle.rules.specs.Laws.Formed.{read-formed, conf-distinct, conf-small}
 use Rattle.rules.specs.Laws.Listing.{paths-iff, paths-once}
 
+pub lists-granted : (t : Tree) (q : Request) → requestJudged t q ≡ passes → listsJudged q ≡ passes
+unfolding requestJudged
+lists-granted t q h = then-passes (listsJudged q) (configuredJudged (frame t) q then cpusJudged t (q .ids) then idsFrom t 0 (q .ids)) tt h .0
+
 pub configured-granted : (t : Tree) (q : Request) → requestJudged t q ≡ passes → configuredJudged (frame t) q ≡ passes
 unfolding requestJudged
 configured-granted t q h =

@@ -1,23 +1,23 @@
 -- The laws of the list: it holds exactly what 01's rule says, each once.
-use mathlib.Core.Path.{_≡_, refl, sym, _∙_}
+use mathlib.Core.Path.{_≡_, refl, sym, ap, _∙_}
 use mathlib.Core.Logic.{_⊎_, inl, inr, _↔_}
-use mathlib.Core.Bool.{true, false, not, _&&_, _||_}
+use mathlib.Core.Bool.{Bool, true, false, not, _&&_, _||_}
 use mathlib.Core.List.{List, [], _∷_, _++_, map, List·Memᴰ·head, List·Memᴰ·tail, List·Memᴰ·not-nil, List·Memᴰ·cases-cons, Memᴰ·cast, Memᴰ·append-left, Memᴰ·append-right, List·Memᴰ·append-cases, Memᴰ·map, Memᴰ·of-map, reverse}
-use Prim.Native.Nat.{ℕ, _<_}
+use Prim.Native.Nat.{ℕ, suc, _<_}
 use native.Mathlib.Omega.{arith}
 use lib.ListN.{length, getD, length-map}
 use lib.Dec.{eqb}
 use borrow.Author.Tests.{eqb-false, ne-eqb, not-true}
 use Rattle.rules.specs.Octets.{Bytes}
-use Rattle.rules.specs.Lists.{keep, fresh}
-use Rattle.rules.specs.Tree.{Tree, frame, below, path, numbersFrom}
+use Rattle.rules.specs.Lists.{oneOf, any, keep, fresh}
+use Rattle.rules.specs.Tree.{Tree, node, climb, frame, below, path, numbersFrom}
 use Rattle.rules.specs.References.{Rules, targets}
 use Rattle.rules.specs.Listing.{_∈_, Reached, configured, under, referenced, Spared, Listed, nodesBelow, gather, givenNodes, starts, found, reachedList, within, listed}
-use Rattle.rules.specs.Laws.Tests.{or-false, and-true}
-use Rattle.rules.specs.Laws.Lists.{keep-of, of-keep, keep-distinct, any-no, no-any, numbers-mem, mem-numbers, Distinct, none, more, distinct-append, distinct-at, mem-at, map-at, Fresh, fresh-is}
+use Rattle.rules.specs.Laws.Tests.{or-false, or-nothing, and-true}
+use Rattle.rules.specs.Laws.Lists.{keep-of, of-keep, keep-distinct, any-no, no-any, any-same, any-or, one-any, numbers-mem, mem-numbers, Distinct, none, more, distinct-append, distinct-at, mem-at, map-at, Fresh, fresh-is}
 use Rattle.rules.specs.Laws.Order.{sort-of, of-sort, Ascending, empty, put, Keyed, unkeyed, keyed, sort-ascending, before-irrefl}
 use Rattle.rules.specs.Laws.References.{targets-range}
-use Rattle.rules.specs.Laws.Paths.{Formed, path-known}
+use Rattle.rules.specs.Laws.Paths.{Formed, below-step, path-known}
 use Rattle.rules.specs.Laws.Work.{found-iff, work-once, Reach, started, target}
 
 pub below-of : (t : Tree) (p x : ℕ) → x ∈ nodesBelow (frame t) p → (x < length t) × (below t p x ≡ true)
@@ -234,3 +234,19 @@ module _ (r : Rules) (t : Tree) (conf excl : List ℕ) (w : Formed t) (distinct 
       distinct-at listed-distinct i j g (omega arith)
       (path-known t w (getD l i 0) (getD l j 0) (small-at i (omega arith)) (small-at j (omega arith))
       (sym (map-at (path t) l i 0 [] (omega arith)) ∙ e ∙ map-at (path t) l j 0 [] (omega arith)))
+
+-- ---- a node is within some nodes if it is one of them or its parent is within them
+
+module _ (t : Tree) where
+  pub within-root : (l : List ℕ) → within (frame t) l 0 ≡ oneOf 0 l
+  unfolding within climb
+  within-root l = any-same (λ (e : ℕ). eqb 0 e || below t e 0) (eqb 0) l (λ z m. or-nothing (eqb 0 z)) ∙ sym (one-any 0 l)
+
+  pub within-step : Formed t → (l : List ℕ) (i : ℕ) → suc i < length t → within (frame t) l (suc i) ≡ (oneOf (suc i) l || within (frame t) l (node t (suc i) .parent))
+  unfolding within
+  within-step w l i h =
+      let p : ℕ = node t (suc i) .parent in
+      any-same (λ (e : ℕ). eqb (suc i) e || below t e (suc i)) (λ (e : ℕ). eqb (suc i) e || (eqb p e || below t e p)) l
+      (λ z m. ap (λ (b : Bool). eqb (suc i) z || b) (below-step t w z i h))
+      ∙ any-or (eqb (suc i)) (λ (e : ℕ). eqb p e || below t e p) l
+      ∙ ap (λ (b : Bool). b || any (λ (e : ℕ). eqb p e || below t e p) l) (sym (one-any (suc i) l))

@@ -1,7 +1,7 @@
 -- The laws of lists of numbers: membership, what passes a test, lists without repeats and how long such a list can be, what is new.
 use mathlib.Core.Path.{_≡_, refl, sym, ap, _∙_}
 use mathlib.Core.Logic.{_⊎_, inl, inr}
-use mathlib.Core.Bool.{Bool, true, false}
+use mathlib.Core.Bool.{Bool, true, false, _||_}
 use mathlib.Core.List.{List, [], _∷_, _++_, map, List·Memᴰ·head, List·Memᴰ·tail, List·Memᴰ·not-nil, List·Memᴰ·cases-cons, Memᴰ·cast, List·Memᴰ·append-cases, reverse, reverseAux, reverse-reverse}
 use Prim.Native.Nat.{ℕ, zero, suc, _+_, _≤_, _<_}
 use native.Mathlib.Omega.{arith}
@@ -11,9 +11,9 @@ use native.Mathlib.Numerals.{add-one}
 use lib.Dec.{eqb}
 use borrow.Author.Tests.{eqb-true, eqb-false, eq-eqb, ne-eqb}
 use Rattle.rules.specs.Lists.{oneOf, every, any, keep, fresh}
-use Rattle.rules.specs.Tree.{numbersFrom}
+use Rattle.rules.specs.Tree.{numbersFrom, Frame, numbers}
 use Rattle.rules.specs.Listing.{_∈_}
-use Rattle.rules.specs.Laws.Tests.{by-test, never, or-cases, or-left, or-right, or-false, and-true, not-passed}
+use Rattle.rules.specs.Laws.Tests.{by-test, never, or-cases, or-left, or-right, or-false, or-shift, or-four, and-true, not-passed}
 
 -- ---- the test for membership
 
@@ -52,6 +52,19 @@ module _ (x : ℕ) (l : List ℕ) (i : ℕ) where
   pub oneOf-past : i < length l → (getD l i 0 ≡ x → ⊥) → oneOf x (drop i l) ≡ oneOf x (drop (i + 1) l)
   unfolding oneOf
   oneOf-past h e = rw (add-one, drop-cons l i 0 h) (rw (ne-eqb x (getD l i 0) (λ q. e (sym q))))
+
+pub one-any : (x : ℕ) (l : List ℕ) → oneOf x l ≡ any (eqb x) l
+unfolding oneOf any
+one-any x [] = refl
+one-any x (y ∷ l) = rw (one-any x l)
+
+pub any-last : (f : ℕ → Bool) (l : List ℕ) (j : ℕ) → any f (l ++ (j ∷ [])) ≡ (f j || any f l)
+unfolding any
+any-last f [] j = refl
+any-last f (x ∷ l) j = rw (any-last f l j) (or-shift (f x) (f j) (any f l))
+
+pub one-last : (i : ℕ) (l : List ℕ) (j : ℕ) → oneOf i (l ++ (j ∷ [])) ≡ (eqb i j || oneOf i l)
+one-last i l j = one-any i (l ++ (j ∷ [])) ∙ any-last (eqb i) l j ∙ ap (λ (b : Bool). eqb i j || b) (sym (one-any i l))
 
 pub every-mem : (f : ℕ → Bool) {x : ℕ} {l : List ℕ} → x ∈ l → every f l ≡ true → f x ≡ true
 unfolding every
@@ -104,6 +117,12 @@ pub any-same : (f g : ℕ → Bool) (l : List ℕ) → ((z : ℕ) → z ∈ l �
 unfolding any
 any-same f g [] h = refl
 any-same f g (x ∷ xs) h = rw (h x (List·Memᴰ·head refl), any-same f g xs (λ z m. h z (List·Memᴰ·tail m)))
+
+-- one test or the other
+pub any-or : (f g : ℕ → Bool) (l : List ℕ) → any (λ (x : ℕ). f x || g x) l ≡ (any f l || any g l)
+unfolding any
+any-or f g [] = refl
+any-or f g (x ∷ xs) = rw (any-or f g xs) (or-four (f x) (g x) (any f xs) (any g xs))
 
 -- ---- no number twice
 
@@ -238,6 +257,12 @@ module _ (f : ℕ → Bool) where
       (λ e. rw (keep-no x l e) (keep-distinct d))
 
 -- ---- what is new
+
+-- a node below `size` is one of those that pass exactly if it passes
+pub one-keep : (p : ℕ → Bool) (f : Frame) (x : ℕ) → x < f .size → oneOf x (keep p (numbers f)) ≡ p x
+one-keep p f x h = by-test (p x)
+    (λ e. mem-oneOf (of-keep p (mem-numbers 0 (f .size) x (omega arith) (omega arith)) e) ∙ sym e)
+    (λ e. not-oneOf x (keep p (numbers f)) (λ m. never (p x) (keep-of p (numbers f) x m .1) e) ∙ sym e)
 
 pub fresh-known : (noted ts : List ℕ) (t : ℕ) → oneOf t noted ≡ true → fresh noted (t ∷ ts) ≡ fresh noted ts
 unfolding fresh

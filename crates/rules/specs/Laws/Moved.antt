@@ -80,6 +80,10 @@ pub moved-plain : {t u : Tree} → Moved t u → map plain t ≡ map plain u
 moved-plain no-nodes = refl
 moved-plain (moved-node a m) = λ i. record { name = a .name i; props = moved-values (a .props) i } ∷ moved-plain m i
 
+pub moved-parents : {t u : Tree} → Moved t u → map (λ (n : Node). n .parent) t ≡ map (λ (n : Node). n .parent) u
+moved-parents no-nodes = refl
+moved-parents (moved-node a m) = λ i. a .parent i ∷ moved-parents m i
+
 -- ---- 10 to 12
 
 named-moved : (n m : Bytes) {ps qs : List Property} → n ≡ m → MovedProps ps qs → named n ps ≡ named m qs

@@ -62,7 +62,7 @@ module _ {ℓ} {A : Type ℓ} where
   unfolding put
   put-nil d at = rw (add-zero, take-append-drop)
 
-  put-front : (d xs : List A) → put d 0 xs ≡ xs ++ drop (length xs) d
+  pub put-front : (d xs : List A) → put d 0 xs ≡ xs ++ drop (length xs) d
   unfolding put
   put-front d xs = rw (zero-add (length xs))
 

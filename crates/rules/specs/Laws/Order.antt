@@ -1,16 +1,18 @@
 -- The byte order of byte strings, a strict total order, and lists sorted by it.
-use mathlib.Core.Path.{_≡_, refl, sym, ap₂, _∙_}
+use mathlib.Core.Path.{_≡_, refl, sym, ap, ap₂, _∙_}
 use mathlib.Core.Logic.{_⊎_, inl, inr}
-use mathlib.Core.Bool.{true, false, _&&_}
-use mathlib.Core.List.{List, [], _∷_, List·Memᴰ·head, List·Memᴰ·tail, List·Memᴰ·not-nil, List·Memᴰ·cases-cons}
-use Prim.Native.Nat.{ℕ, _≤_, _<_}
+use mathlib.Core.Bool.{Bool, true, false, _&&_}
+use mathlib.Core.List.{List, [], _∷_, _++_, List·Memᴰ·head, List·Memᴰ·tail, List·Memᴰ·not-nil, List·Memᴰ·cases-cons}
+use Prim.Native.Nat.{ℕ, zero, suc, _≤_, _<_}
 use native.Mathlib.Omega.{arith}
 use lib.Dec.{eqb, ltb}
+use lib.ListN.{length, getD, take, drop}
 use borrow.Author.Tests.{eqb-true, eq-eqb, ltb-true, ltb-false, lt-ltb}
 use Rattle.rules.specs.Octets.{Bytes, before}
-use Rattle.rules.specs.Lists.{insert, sort}
+use Rattle.rules.specs.Lists.{keep, insert, sort}
 use Rattle.rules.specs.Listing.{_∈_}
 use Rattle.rules.specs.Laws.Tests.{by-test, never, or-cases, or-left, or-right, and-true}
+use Rattle.rules.specs.Laws.Lists.{keep-of, keep-yes, keep-no, mem-at}
 
 -- what it says of two heads
 before-cons : (x y : ℕ) (k l : Bytes) → before (x ∷ k) (y ∷ l) ≡ true → (x < y) ⊎ ((x ≡ y) × (before k l ≡ true))
@@ -170,3 +172,39 @@ module _ {A : Type 0} (key : A → Bytes) where
       right : (z : A) → z ∈ l → (z ≡ x) ⊎ (z ∈ k) → z ∈ k
       right z m (inl e) = absurd (before-irrefl (key y) (rw (e ∙ heads) at (g z m)))
       right z m (inr j) = j
+
+-- ---- place by place
+
+module _ {A : Type 0} (key : A → Bytes) where
+  -- an element is inserted behind all that come before it
+  pub insert-at : (x z : A) (l : List A) (k : ℕ) → ((i : ℕ) → i < k → before (key (getD l i z)) (key x) ≡ true)
+      → (k < length l → before (key (getD l k z)) (key x) ≡ false) → insert key x l ≡ take k l ++ (x ∷ drop k l)
+  unfolding insert
+  insert-at x z [] zero h g = refl
+  insert-at x z [] (suc k) h g = refl
+  insert-at x z (y ∷ ys) zero h g = rw (g (omega arith), insert)
+  insert-at x z (y ∷ ys) (suc k) h g =
+      rw (h 0 (omega arith), insert)
+      (ap (λ (m : List A). y ∷ m) (insert-at x z ys k (λ i b. h (suc i) (omega arith)) (λ b. g (omega arith))))
+
+  pub insert-length : (x : A) (l : List A) → length (insert key x l) ≡ suc (length l)
+  unfolding insert
+  insert-length x [] = refl
+  insert-length x (y ∷ ys) = by-test (before (key y) (key x))
+      (λ e. rw (e, insert) (ap suc (insert-length x ys)))
+      (λ e. rw (e, insert))
+
+  -- an earlier place comes before a later one
+  pub ascending-at : {l : List A} → Ascending key l → (z : A) (i j : ℕ) → i < j → j < length l → before (key (getD l i z)) (key (getD l j z)) ≡ true
+  ascending-at empty z i j g h = absurd (omega arith)
+  ascending-at (put f a) z i zero g h = absurd (omega arith)
+  ascending-at (put {x = x} {l = l} f a) z zero (suc j) g h = f (getD l j z) (mem-at l j z (omega arith))
+  ascending-at (put f a) z (suc i) (suc j) g h = ascending-at a z i j (omega arith) (omega arith)
+
+-- what passes a test keeps its order
+pub keep-ascending : (key : ℕ → Bytes) (f : ℕ → Bool) {l : List ℕ} → Ascending key l → Ascending key (keep f l)
+unfolding keep
+keep-ascending key f empty = empty
+keep-ascending key f (put {x = x} {l = l} h a) = by-test (f x)
+    (λ e. rw (keep-yes f x l e) (put (λ y m. h y (keep-of f l y m .0)) (keep-ascending key f a)))
+    (λ e. rw (keep-no f x l e) (keep-ascending key f a))

@@ -5,7 +5,7 @@ use Prim.Native.Nat.{ℕ, _+_}
 use native.Mathlib.Omega.{arith}
 use native.Mathlib.Nat.{sub-zero}
 use lib.ListN.{length, take, drop}
-use borrow.Author.Tests.{le-ltb}
+use borrow.Author.Tests.{lt-ltb, le-ltb}
 use Rattle.rules.specs.Ceilings.{workWords}
 use Rattle.rules.specs.Octets.{zeros, put}
 use Rattle.rules.specs.Reader.{spaceOf, readWork}
@@ -39,8 +39,9 @@ cleared-rest work = rw sub-zero (zeros-behind work workWords)
 
 pub space-cleared : SpaceCleared
 unfolding deriveWork
-space-cleared work h = rw (le-ltb (length work) workWords h) (cleared-words work, cleared-rest work)
+space-cleared work = (λ h. rw (lt-ltb (length work) workWords h), λ h. rw (le-ltb (length work) workWords h) (cleared-words work, cleared-rest work))
 
 pub table-cleared : TableCleared
 unfolding readWork
-table-cleared blob work number place h e = rw (le-ltb (length work) workWords h, e) (cleared-words work, cleared-rest work)
+table-cleared blob work =
+    (λ h. rw (lt-ltb (length work) workWords h), λ number place h e. rw (le-ltb (length work) workWords h, e) (cleared-words work, cleared-rest work))

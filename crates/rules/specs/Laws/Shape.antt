@@ -3,7 +3,7 @@ use mathlib.Core.Path.{_≡_, refl, ap}
 use mathlib.Core.Logic.{_⊎_, inl, inr}
 use mathlib.Core.Bool.{Bool, true, false, not}
 use mathlib.Core.List.{List, [], _∷_}
-use Prim.Native.Nat.{ℕ, suc, _<_}
+use Prim.Native.Nat.{ℕ, suc, _≤_, _<_}
 use native.Mathlib.Omega.{arith}
 use lib.ListN.{length}
 use lib.Dec.{eqb, leb}
@@ -18,6 +18,16 @@ use Rattle.rules.specs.Laws.Tests.{by-test, never, and-true}
 use Rattle.rules.specs.Laws.Lists.{every-mem}
 use Rattle.rules.specs.Laws.Verdicts.{gives-refuses}
 use Rattle.rules.specs.Laws.Names.{plain, every-all, node-name-plain, property-name-plain}
+
+-- ---- the ceilings let a root in
+
+pub some-open : 1 ≤ openCeiling
+unfolding openCeiling
+some-open = omega arith
+
+pub some-nodes : 1 ≤ nodeCeiling
+unfolding nodeCeiling
+some-nodes = omega arith
 
 -- ---- names
 

@@ -15,16 +15,12 @@ use Rattle.rules.specs.Events.{Property, Event, opens}
 use Rattle.rules.specs.Tree.{Node, Tree, node, propsOf, top, nodesFrom}
 use Rattle.rules.specs.Copy.{sieve}
 use Rattle.rules.specs.Listing.{_∈_}
+use Rattle.rules.specs.Demands.{rank}
 use Rattle.rules.specs.Laws.Tests.{by-test, by-le, never}
 use Rattle.rules.specs.Laws.Lists.{keep-yes, keep-no, small-more}
 use Rattle.rules.specs.Laws.Nested.{Nested, finished, root, child, holds, shuts}
 
 -- ---- new numbers
-
--- how many of the numbers below n are kept: a kept node's new number
-unfoldable pub rank : (ℕ → Bool) → ℕ → ℕ
-rank k zero = 0
-rank k (suc n) = elim (k n) [ true ↦ suc (rank k n) | false ↦ rank k n ]
 
 module _ (k : ℕ → Bool) where
   pub rank-yes : (n : ℕ) → k n ≡ true → rank k (suc n) ≡ suc (rank k n)

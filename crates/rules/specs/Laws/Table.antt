@@ -15,6 +15,7 @@ use Rattle.rules.specs.Blob.{Block, blockIn}
 use Rattle.rules.specs.Events.{Event, shapeJudged, eventsIn}
 use Rattle.rules.specs.Tree.{Node, Tree, node, nodesFrom, nodesOf, phandleOf}
 use Rattle.rules.specs.Reader.{eventsRead, treeRead, blobJudged, rowOf, rowsOf}
+use Rattle.rules.specs.Laws.Shape.{some-nodes}
 use Rattle.rules.specs.Laws.Nested.{Nested, finished, root, child, holds, shuts, events-pass, events-nested}
 use Rattle.rules.specs.Laws.Formed.{accepted, read-formed, empty-name}
 
@@ -75,21 +76,17 @@ row-none t i h e = (row-word t i 2 h (omega arith) ∙ rw (e, rowOf), row-word t
 
 -- ---- the nodes of a shape that passes
 
-one-node : 1 ≤ nodeCeiling
-unfolding nodeCeiling
-one-node = omega arith
-
 few : {ended : Bool} {stack : List ℕ} {count : ℕ} {es : List Event} → Nested ended stack count es → count ≤ nodeCeiling → count + length (nodesFrom stack count es) ≤ nodeCeiling
 unfolding nodesFrom
 few (finished n) h = omega arith
-few (root z e n) h = omega (arith, one-node, few n (omega (arith, one-node)))
+few (root z e n) h = omega (arith, some-nodes, few n (omega (arith, some-nodes)))
 few (child e f g n) h = omega (arith, few n (omega arith))
 few (holds e n) h = few n h
 few (shuts n) h = few n h
 
 pub nodes-few : (b : Block) → shapeJudged b ≡ passes → length (nodesOf (eventsIn b)) ≤ nodeCeiling
 unfolding nodesOf
-nodes-few b h = omega (arith, few (events-nested (eventsIn b) (events-pass b h)) (omega (arith, one-node)))
+nodes-few b h = omega (arith, few (events-nested (eventsIn b) (events-pass b h)) (omega (arith, some-nodes)))
 
 -- the first is the root
 pub record Rooted (t : Tree) : Type 0 where

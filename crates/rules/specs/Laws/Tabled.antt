@@ -21,7 +21,7 @@ use Rattle.rules.specs.declared.Token.{Token}
 use Rattle.rules.specs.declared.Token.the-variants.{Item, End, Cut}
 use Rattle.rules.specs.Laws.Lists.{length-numbers, map-at}
 use Rattle.rules.specs.Laws.Events.{eventsAt}
-use Rattle.rules.specs.Laws.References.{by-option}
+use Rattle.rules.specs.Laws.References.{by-option, placeOf-lt}
 
 -- ---- a node
 
@@ -103,6 +103,12 @@ behind-zero (some k) = ap {B = Option ℕ} some (omega arith)
 behind-suc : (i : ℕ) (o : Option ℕ) → behind i (Option·map suc o) ≡ behind (i + 1) o
 behind-suc i none = refl
 behind-suc i (some k) = ap {B = Option ℕ} some (omega arith)
+
+-- what is found is a row
+pub look-small : (ws : List ℕ) (count w m : ℕ) → lookIn ws count w ≡ some m → m < count
+unfolding lookIn phandlesFrom
+look-small ws count w m e =
+    omega (arith, placeOf-lt w (phandlesFrom ws 0 count) m e, length-map (numbersFrom 0 count) (phandleIn ws), length-numbers 0 count)
 
 module _ (ws : List ℕ) (count w : ℕ) where
   pub look-all : lookIn ws count w ≡ lookFrom ws count w 0

@@ -79,6 +79,16 @@ pub or-assoc : (a b c : Bool) → ((a || b) || c) ≡ (a || (b || c))
 or-assoc true b c = refl
 or-assoc false b c = refl
 
+pub or-shift : (a b c : Bool) → (a || (b || c)) ≡ (b || (a || c))
+or-shift true true c = refl
+or-shift true false c = refl
+or-shift false true c = refl
+or-shift false false c = refl
+
+pub or-four : (a b c d : Bool) → (a || b || (c || d)) ≡ (a || c || (b || d))
+or-four true b c d = refl
+or-four false b c d = or-shift b c d
+
 pub and-nothing : (a : Bool) → (a && true) ≡ a
 and-nothing true = refl
 and-nothing false = refl

@@ -1,5 +1,5 @@
 -- The laws of verdicts: what it says that judgements one after the other pass.
-use mathlib.Core.Path.{_≡_, refl}
+use mathlib.Core.Path.{_≡_, refl, sym}
 use mathlib.Core.Bool.{Bool, true, false}
 use mathlib.Core.List.{[], _∷_}
 use Prim.Native.Nat.{ℕ}
@@ -27,3 +27,21 @@ one-passes false number place e = refl
 -- the same judgements one after the other
 pub then-same : {A : Type 0} (v w : Verdict) (o p : Outcome A) → v ≡ w → o ≡ p → (v then o) ≡ (w then p)
 then-same v w o p e f = rw (e, f)
+
+-- ---- one after the other
+
+pub then-end : (v : Verdict) → (v then passes) ≡ v
+then-end (gives tt) = refl
+then-end (refuses number place) = refl
+
+pub then-then : {A : Type 0} (v w : Verdict) (o : Outcome A) → ((v then w) then o) ≡ (v then (w then o))
+then-then (gives u) w o = refl
+then-then (refuses number place) w o = refl
+
+pub then-refuses : {A : Type 0} (v : Verdict) (a : A) (number place : ℕ) → _≡_ {A = Outcome A} (refuses number place) (v then gives a) → v ≡ refuses number place
+then-refuses (gives u) a number place e = gives-refuses a number place e
+then-refuses (refuses n p) a number place e = let f : n ≡ number = cc in let g : p ≡ place = cc in rw (f, g)
+
+pub then-gives : (v : Verdict) (n m : ℕ) → gives n ≡ (v then gives m) → (v ≡ passes) × (n ≡ m)
+then-gives (gives u) n m e = (refl, cc)
+then-gives (refuses number place) n m e = gives-refuses n number place (sym e)

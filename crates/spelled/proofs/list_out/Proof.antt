@@ -5,12 +5,12 @@ use Prim.Native.Nat.{ℕ, _+_, _-_, _*_, _≤_}
 use native.Mathlib.Omega.{arith}
 use lib.ListN.{length}
 use denote.Ref.{now}
-use Rattle.rules.specs.Ceilings.{blobCeiling, nodeCeiling}
 use Rattle.rules.specs.Octets.{Bytes, lay}
 use Rattle.rules.specs.Laws.Octets.{lay-nil, length-lay}
+use Rattle.rules.specs.Laws.Kept.{node-word, list-at, word-in-part, longest}
 use Rattle.paths.specs.Trees.{treeOf}
 use Rattle.spelled.specs.Lists.{listBytes}
-use Rattle.spelled.proofs.Spelt.{longest, path-short, length-more, laid-more, bytes-none}
+use Rattle.spelled.proofs.Spelt.{path-short, sum-more, sum-fits, length-more, laid-more, bytes-none}
 use borrow.Author.Needs.{needs}
 use Rattle.spelled.proofs.list_out.Statement.{statement}
 use Rattle.spelled.proofs.list_out.Tie as tie
@@ -27,8 +27,7 @@ loop-holds : tie.Need-loop-holds Inv-loop μ-loop
 loop-holds c = (omega arith, omega arith, refl, λ s. (sym (ap length (bytes-none (treeOf (c .before .before .before .args .place) (now (c .before .before .before .args .structure)) s (now (c .before .before .before .args .work)) (c .before .before .before .args .count)) (now (c .before .before .before .args .work)))), sym (ap (lay (now (c .before .before .before .args .out)) 0) (bytes-none (treeOf (c .before .before .before .args .place) (now (c .before .before .before .args .structure)) s (now (c .before .before .before .args .work)) (c .before .before .before .args .count)) (now (c .before .before .before .args .work))) ∙ lay-nil (now (c .before .before .before .args .out)) 0)))
 
 add-word-of : tie.Need-add-word-of Inv-loop μ-loop
-unfolding nodeCeiling
-add-word-of c = let h = c .before .before .before .before .before .pre .1 .1 .0 in search needs
+add-word-of c = let w = node-word in let h = c .before .before .before .before .before .pre .1 .1 .0 in search needs
 
 word-of-requires : tie.Need-word-of-requires Inv-loop μ-loop
 word-of-requires c κs = search needs
@@ -43,12 +42,10 @@ path-len-requires : tie.Need-path-len-requires Inv-loop μ-loop
 path-len-requires c κs = (c .before .before .before .before .before .before .before .before .before .before .pre .0, c .before .before .before .before .before .before .before .before .before .before .pre .1 .0)
 
 add-at : tie.Need-add-at Inv-loop μ-loop
-unfolding blobCeiling nodeCeiling
-add-at c = record { fits = omega (arith, c .before .before .before .before .before .before .before .loop .inv .1, c .before .before .before .before .before .before .loop-test .taken, c .before .before .before .before .before .before .before .before .before .before .before .pre .1 .1 .0, c .path-len .ensures [], path-short (record { place = c .before .before .before .before .before .before .before .before .before .before .before .args .place; structure = now (c .before .before .before .before .before .before .before .before .before .before .before .args .structure); strings = [] }) (now (c .before .before .before .before .before .before .before .before .before .before .before .args .work)) (c .before .before .before .before .before .before .before .before .before .before .before .args .count) (c .before .before .before .before .before .before .before .before .before .before .before .pre .0) (c .before .before .before .before .before .before .before .before .before .before .before .pre .1 .0) (c .before .before .before .before .before .word-of .result)) }
+add-at c = record { fits = omega (arith, sum-fits (c .before .before .before .before .before .before .before .loop .k) (c .before .before .before .before .before .before .before .loop .at) (c .path-len .result) (omega (arith, c .before .before .before .before .before .before .loop-test .taken, c .before .before .before .before .before .before .before .before .before .before .before .pre .1 .1 .0)) (c .before .before .before .before .before .before .before .loop .inv .1) (omega (arith, c .path-len .ensures [], path-short (record { place = c .before .before .before .before .before .before .before .before .before .before .before .args .place; structure = now (c .before .before .before .before .before .before .before .before .before .before .before .args .structure); strings = [] }) (now (c .before .before .before .before .before .before .before .before .before .before .before .args .work)) (c .before .before .before .before .before .before .before .before .before .before .before .args .count) (c .before .before .before .before .before .before .before .before .before .before .before .pre .0) (c .before .before .before .before .before .before .before .before .before .before .before .pre .1 .0) (c .before .before .before .before .before .word-of .result)))) }
 
 add-at-2 : tie.Need-add-at-2 Inv-loop μ-loop
-unfolding blobCeiling nodeCeiling
-add-at-2 c = record { fits = omega (arith, c .before .before .before .before .before .before .before .loop .inv .1, c .before .before .before .before .before .before .loop-test .taken, c .before .before .before .before .before .before .before .before .before .before .before .pre .1 .1 .0, c .path-len .ensures [], path-short (record { place = c .before .before .before .before .before .before .before .before .before .before .before .args .place; structure = now (c .before .before .before .before .before .before .before .before .before .before .before .args .structure); strings = [] }) (now (c .before .before .before .before .before .before .before .before .before .before .before .args .work)) (c .before .before .before .before .before .before .before .before .before .before .before .args .count) (c .before .before .before .before .before .before .before .before .before .before .before .pre .0) (c .before .before .before .before .before .before .before .before .before .before .before .pre .1 .0) (c .before .before .before .before .before .word-of .result)) }
+add-at-2 c = record { fits = omega (arith, sum-fits (c .before .before .before .before .before .before .before .loop .k) (c .before .before .before .before .before .before .before .loop .at) (c .path-len .result) (omega (arith, c .before .before .before .before .before .before .loop-test .taken, c .before .before .before .before .before .before .before .before .before .before .before .pre .1 .1 .0)) (c .before .before .before .before .before .before .before .loop .inv .1) (omega (arith, c .path-len .ensures [], path-short (record { place = c .before .before .before .before .before .before .before .before .before .before .before .args .place; structure = now (c .before .before .before .before .before .before .before .before .before .before .before .args .structure); strings = [] }) (now (c .before .before .before .before .before .before .before .before .before .before .before .args .work)) (c .before .before .before .before .before .before .before .before .before .before .before .args .count) (c .before .before .before .before .before .before .before .before .before .before .before .pre .0) (c .before .before .before .before .before .before .before .before .before .before .before .pre .1 .0) (c .before .before .before .before .before .word-of .result)))) }
 
 add-k : tie.Need-add-k Inv-loop μ-loop
 add-k c = search needs
@@ -57,12 +54,11 @@ loop-less : tie.Need-loop-less Inv-loop μ-loop
 loop-less c = omega (arith, c .before .before .before .before .before .before .loop-test .taken)
 
 loop-again : tie.Need-loop-again Inv-loop μ-loop
-unfolding blobCeiling nodeCeiling
 loop-again c = (
   omega (arith, c .before .before .before .before .before .before .loop-test .taken),
-  omega (arith, c .before .before .before .before .before .before .before .loop .inv .1, c .path-len .ensures [], path-short (record { place = c .before .before .before .before .before .before .before .before .before .before .before .args .place; structure = now (c .before .before .before .before .before .before .before .before .before .before .before .args .structure); strings = [] }) (now (c .before .before .before .before .before .before .before .before .before .before .before .args .work)) (c .before .before .before .before .before .before .before .before .before .before .before .args .count) (c .before .before .before .before .before .before .before .before .before .before .before .pre .0) (c .before .before .before .before .before .before .before .before .before .before .before .pre .1 .0) (c .before .before .before .before .before .word-of .result)),
+  sum-more (c .before .before .before .before .before .before .before .loop .k) (c .before .before .before .before .before .before .before .loop .at) (c .path-len .result) (omega (arith, c .before .before .before .before .before .before .loop-test .taken, c .before .before .before .before .before .before .before .before .before .before .before .pre .1 .1 .0)) (c .before .before .before .before .before .before .before .loop .inv .1) (omega (arith, c .path-len .ensures [], path-short (record { place = c .before .before .before .before .before .before .before .before .before .before .before .args .place; structure = now (c .before .before .before .before .before .before .before .before .before .before .before .args .structure); strings = [] }) (now (c .before .before .before .before .before .before .before .before .before .before .before .args .work)) (c .before .before .before .before .before .before .before .before .before .before .before .args .count) (c .before .before .before .before .before .before .before .before .before .before .before .pre .0) (c .before .before .before .before .before .before .before .before .before .before .before .pre .1 .0) (c .before .before .before .before .before .word-of .result))),
   ap length (c .before .before .before .spell .ensures []) ∙ length-lay (c .before .before .before .before .before .before .before .loop .out) (c .before .before .before .before .before .before .before .loop .at) _ ∙ c .before .before .before .before .before .before .before .loop .inv .2,
-  λ s. (length-more (treeOf (c .before .before .before .before .before .before .before .before .before .before .before .args .place) (now (c .before .before .before .before .before .before .before .before .before .before .before .args .structure)) s (now (c .before .before .before .before .before .before .before .before .before .before .before .args .work)) (c .before .before .before .before .before .before .before .before .before .before .before .args .count)) (now (c .before .before .before .before .before .before .before .before .before .before .before .args .work)) (c .before .before .before .before .before .before .before .before .before .before .before .pre .1 .1 .1) (c .before .before .before .before .before .before .before .loop .k) (omega (arith, c .before .before .before .before .before .before .loop-test .taken, c .before .before .before .before .before .before .before .before .before .before .before .pre .1 .1 .0)) (c .before .before .before .before .before .word-of .result) (c .before .before .before .before .before .word-of .ensures) (c .before .before .before .before .before .before .before .loop .at) (c .path-len .result) (c .before .before .before .before .before .before .before .loop .inv .3 s .0) (c .path-len .ensures s), laid-more (treeOf (c .before .before .before .before .before .before .before .before .before .before .before .args .place) (now (c .before .before .before .before .before .before .before .before .before .before .before .args .structure)) s (now (c .before .before .before .before .before .before .before .before .before .before .before .args .work)) (c .before .before .before .before .before .before .before .before .before .before .before .args .count)) (now (c .before .before .before .before .before .before .before .before .before .before .before .args .work)) (c .before .before .before .before .before .before .before .before .before .before .before .pre .1 .1 .1) (c .before .before .before .before .before .before .before .loop .k) (omega (arith, c .before .before .before .before .before .before .loop-test .taken, c .before .before .before .before .before .before .before .before .before .before .before .pre .1 .1 .0)) (c .before .before .before .before .before .word-of .result) (c .before .before .before .before .before .word-of .ensures) (now (c .before .before .before .before .before .before .before .before .before .before .before .args .out)) (c .before .before .before .before .before .before .before .loop .out) _ (c .before .before .before .before .before .before .before .loop .at) (c .before .before .before .before .before .before .before .loop .inv .3 s .0) (c .before .before .before .before .before .before .before .loop .inv .3 s .1) (c .before .before .before .spell .ensures s)),
+  λ s. (length-more (treeOf (c .before .before .before .before .before .before .before .before .before .before .before .args .place) (now (c .before .before .before .before .before .before .before .before .before .before .before .args .structure)) s (now (c .before .before .before .before .before .before .before .before .before .before .before .args .work)) (c .before .before .before .before .before .before .before .before .before .before .before .args .count)) (now (c .before .before .before .before .before .before .before .before .before .before .before .args .work)) (c .before .before .before .before .before .before .before .before .before .before .before .pre .1 .1 .1) (c .before .before .before .before .before .before .before .loop .k) (omega (arith, c .before .before .before .before .before .before .loop-test .taken, c .before .before .before .before .before .before .before .before .before .before .before .pre .1 .1 .0)) (c .before .before .before .before .before .word-of .result) (word-in-part list-at (now (c .before .before .before .before .before .before .before .before .before .before .before .args .work)) (c .before .before .before .before .before .before .before .loop .k) (c .before .before .before .before .before .word-of .result) (c .before .before .before .before .before .word-of .ensures)) (c .before .before .before .before .before .before .before .loop .at) (c .path-len .result) (c .before .before .before .before .before .before .before .loop .inv .3 s .0) (c .path-len .ensures s), laid-more (treeOf (c .before .before .before .before .before .before .before .before .before .before .before .args .place) (now (c .before .before .before .before .before .before .before .before .before .before .before .args .structure)) s (now (c .before .before .before .before .before .before .before .before .before .before .before .args .work)) (c .before .before .before .before .before .before .before .before .before .before .before .args .count)) (now (c .before .before .before .before .before .before .before .before .before .before .before .args .work)) (c .before .before .before .before .before .before .before .before .before .before .before .pre .1 .1 .1) (c .before .before .before .before .before .before .before .loop .k) (omega (arith, c .before .before .before .before .before .before .loop-test .taken, c .before .before .before .before .before .before .before .before .before .before .before .pre .1 .1 .0)) (c .before .before .before .before .before .word-of .result) (word-in-part list-at (now (c .before .before .before .before .before .before .before .before .before .before .before .args .work)) (c .before .before .before .before .before .before .before .loop .k) (c .before .before .before .before .before .word-of .result) (c .before .before .before .before .before .word-of .ensures)) (now (c .before .before .before .before .before .before .before .before .before .before .before .args .out)) (c .before .before .before .before .before .before .before .loop .out) _ (c .before .before .before .before .before .before .before .loop .at) (c .before .before .before .before .before .before .before .loop .inv .3 s .0) (c .before .before .before .before .before .before .before .loop .inv .3 s .1) (c .before .before .before .spell .ensures s)),
 )
 
 same-length : tie.Need-same-length Inv-loop μ-loop

@@ -4,10 +4,11 @@ use native.Mathlib.Omega.{arith}
 use lib.ListN.{length}
 use denote.Ref.{now}
 use Rattle.rules.specs.Laws.Octets.{length-lay}
+use Rattle.rules.specs.Laws.Given.{lists-few}
 use Rattle.paths.specs.Trees.{treeOf}
 use Rattle.given.specs.Answers.{meaning as gmeaning}
 use Rattle.asked.specs.Answers.{meaning as ameaning}
-use Rattle.derive.proofs.Checks.{lists-few, checks-lists, checks-named, checks-whole}
+use Rattle.derive.proofs.Checks.{checks-lists, checks-named, checks-whole}
 use borrow.Author.Needs.{needs}
 use Rattle.derive.proofs.judged.request.Statement.{statement}
 use Rattle.derive.proofs.judged.request.Tie as tie

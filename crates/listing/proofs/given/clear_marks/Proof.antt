@@ -6,7 +6,7 @@ use native.Mathlib.Omega.{arith}
 use denote.Ref.{now}
 use Rattle.rules.specs.Octets.{lay}
 use Rattle.rules.specs.Space.{marksAt}
-use Rattle.listing.proofs.Parts.{marks-at, ceiling}
+use Rattle.rules.specs.Laws.Kept.{node-word, marks-at}
 use Rattle.listing.proofs.Gained.{Clearing, clearing-none, clearing-more, cleared}
 use borrow.Author.Needs.{needs}
 use Rattle.listing.proofs.given.clear_marks.Statement.{statement}
@@ -22,13 +22,13 @@ loop-holds : tie.Need-loop-holds Inv-loop μ-loop
 loop-holds c = clearing-none (now (c .before .args .work))
 
 add-put-word-of : tie.Need-add-put-word-of Inv-loop μ-loop
-add-put-word-of c = omega (arith, ceiling)
+add-put-word-of c = omega (arith, node-word)
 
 put-word-of-requires : tie.Need-put-word-of-requires Inv-loop μ-loop
 put-word-of-requires c κs = search needs
 
 add-i : tie.Need-add-i Inv-loop μ-loop
-add-i c = omega (arith, ceiling)
+add-i c = omega (arith, node-word)
 
 loop-less : tie.Need-loop-less Inv-loop μ-loop
 loop-less c = search needs

@@ -5,14 +5,14 @@ use Prim.Native.Nat.{ℕ, _+_}
 use native.Mathlib.Omega.{arith}
 use lib.ListN.{getD}
 use denote.Ref.{now}
-use Rattle.listing.proofs.Parts.{marks-at, ceiling}
+use Rattle.rules.specs.Laws.Kept.{node-word, marks-at}
 use Rattle.listing.proofs.Notes.{known, unknown, gains-new, gains-known}
 use borrow.Author.Needs.{needs}
 use Rattle.listing.proofs.given.list.Statement.{statement}
 use Rattle.listing.proofs.given.list.Tie as tie
 
 add-word-of : tie.Need-add-word-of
-add-word-of c = omega (arith, ceiling)
+add-word-of c = omega (arith, node-word)
 
 word-of-requires : tie.Need-word-of-requires
 word-of-requires c κs = search needs
@@ -30,7 +30,7 @@ enter-requires : tie.Need-enter-requires
 enter-requires c κs = search needs
 
 add-result : tie.Need-add-result
-add-result c = omega (arith, ceiling)
+add-result c = omega (arith, node-word)
 
 same-length-2 : tie.Need-same-length-2
 same-length-2 c = search needs

@@ -7,9 +7,9 @@ use native.Mathlib.Omega.{arith}
 use lib.ListN.{getD}
 use denote.Ref.{now}
 use Rattle.rules.specs.Blob.{Block}
+use Rattle.rules.specs.Laws.Kept.{node-word, stack-at}
 use Rattle.listing.specs.State.{Gains}
 use Rattle.listing.specs.Given.{belowIn}
-use Rattle.listing.proofs.Parts.{stack-at, ceiling}
 use Rattle.listing.proofs.Gained.{belowFrom, gains-refl, start-below, below-turn, below-all}
 use borrow.Author.Needs.{needs}
 use Rattle.listing.proofs.given.list_below.Statement.{statement}
@@ -28,7 +28,7 @@ loop-holds : tie.Need-loop-holds Inv-loop μ-loop
 loop-holds c = λ b. gains-refl (c .before .args .count) (now (c .before .args .work)) (c .before .args .listed) (belowIn b (now (c .before .args .work)) (c .before .args .count) (c .before .args .starts) (c .before .args .p)) (c .before .pre .1 .1)
 
 add-word-of : tie.Need-add-word-of Inv-loop μ-loop
-add-word-of c = omega (arith, ceiling)
+add-word-of c = omega (arith, node-word)
 
 word-of-requires : tie.Need-word-of-requires Inv-loop μ-loop
 word-of-requires c κs = search needs

@@ -5,19 +5,17 @@ use Prim.Native.Nat.{ℕ, _+_}
 use native.Mathlib.Omega.{arith}
 use lib.ListN.{getD}
 use denote.Ref.{now}
-use Rattle.rules.specs.Ceilings.{nodeCeiling}
 use Rattle.rules.specs.Space.{stackAt}
 use Rattle.rules.specs.Octets.{lay}
+use Rattle.rules.specs.Laws.Kept.{node-word, marks-at, stack-at}
 use Rattle.listing.specs.State.{entered}
-use Rattle.listing.proofs.Parts.{marks-at, stack-at}
 use Rattle.listing.proofs.Notes.{known, unknown, stacks-known, stacks-new}
 use borrow.Author.Needs.{needs}
 use Rattle.listing.proofs.note.note.Statement.{statement}
 use Rattle.listing.proofs.note.note.Tie as tie
 
 add-word-of : tie.Need-add-word-of
-unfolding nodeCeiling
-add-word-of c = omega arith
+add-word-of c = omega (arith, node-word)
 
 word-of-requires : tie.Need-word-of-requires
 word-of-requires c κs = search needs
@@ -35,23 +33,19 @@ enter-requires : tie.Need-enter-requires
 enter-requires c κs = search needs
 
 add-put-word-of : tie.Need-add-put-word-of
-unfolding nodeCeiling
-add-put-word-of c = omega arith
+add-put-word-of c = omega (arith, node-word)
 
 cast-put-word-of : tie.Need-cast-put-word-of
-unfolding nodeCeiling
-cast-put-word-of c = omega arith
+cast-put-word-of c = omega (arith, node-word)
 
 put-word-of-requires : tie.Need-put-word-of-requires
 put-word-of-requires c κs = search needs
 
 add-t9 : tie.Need-add-t9
-unfolding nodeCeiling
-add-t9 c = omega arith
+add-t9 c = omega (arith, node-word)
 
 add-t16 : tie.Need-add-t16
-unfolding nodeCeiling
-add-t16 c = omega arith
+add-t16 c = omega (arith, node-word)
 
 same-length-2 : tie.Need-same-length-2
 same-length-2 c = search needs

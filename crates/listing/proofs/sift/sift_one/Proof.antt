@@ -8,14 +8,14 @@ use denote.Ref.{now}
 use borrow.Author.Tests.{not-true, not-false}
 use Rattle.rules.specs.Octets.{lay}
 use Rattle.rules.specs.Space.{listAt}
-use Rattle.listing.proofs.Parts.{list-at, ceiling}
+use Rattle.rules.specs.Laws.Kept.{node-word, list-at}
 use Rattle.listing.proofs.Sieved.{sifts-out, sifts-in}
 use borrow.Author.Needs.{needs}
 use Rattle.listing.proofs.sift.sift_one.Statement.{statement}
 use Rattle.listing.proofs.sift.sift_one.Tie as tie
 
 add-word-of : tie.Need-add-word-of
-add-word-of c = omega (arith, ceiling)
+add-word-of c = omega (arith, node-word)
 
 word-of-requires : tie.Need-word-of-requires
 word-of-requires c κs = search needs
@@ -38,13 +38,13 @@ returns c =
     )
 
 add-put-word-of : tie.Need-add-put-word-of
-add-put-word-of c = omega (arith, ceiling)
+add-put-word-of c = omega (arith, node-word)
 
 put-word-of-requires : tie.Need-put-word-of-requires
 put-word-of-requires c κs = search needs
 
 add-result : tie.Need-add-result
-add-result c = omega (arith, ceiling)
+add-result c = omega (arith, node-word)
 
 same-length-2 : tie.Need-same-length-2
 same-length-2 c = search needs

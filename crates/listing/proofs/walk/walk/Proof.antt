@@ -4,10 +4,11 @@ use Prim.Native.Nat.{ℕ, _+_, _-_}
 use native.Mathlib.Omega.{arith}
 use lib.ListN.{getD}
 use denote.Ref.{now}
+use Rattle.rules.specs.Laws.Kept.{node-word, stack-at}
 use Rattle.references.specs.Cells.{blockOf}
 use Rattle.listing.specs.State.{Apart, Piled}
 use Rattle.listing.specs.Walk.{workFrom}
-use Rattle.listing.proofs.Parts.{stack-at, ceiling, apart-refl, apart-kept}
+use Rattle.listing.proofs.Parts.{apart-refl, apart-kept}
 use Rattle.listing.proofs.Walks.{top-small, popped, walk-turn, walk-apart, walk-less, walked}
 use borrow.Author.Needs.{needs}
 use Rattle.listing.proofs.walk.walk.Statement.{statement}
@@ -31,7 +32,7 @@ sub-top c = search needs
 add-word-of : tie.Need-add-word-of Inv-loop μ-loop
 add-word-of c =
     let p = c .before .before .loop .inv .1 in
-    omega (arith, ceiling, p .least, p .marked .short, p .marked .few)
+    omega (arith, node-word, p .least, p .marked .short, p .marked .few)
 
 word-of-requires : tie.Need-word-of-requires Inv-loop μ-loop
 word-of-requires c κs = search needs

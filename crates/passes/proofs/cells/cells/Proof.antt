@@ -7,7 +7,7 @@ use denote.Ref.{now}
 use Rattle.rules.specs.Tree.{wordsJudged}
 use Rattle.rules.specs.Laws.Tokens.{item-ahead}
 use Rattle.rules.specs.Laws.Events.{eventsAt}
-use Rattle.passes.specs.Passes.{blockOf, nodesIn}
+use Rattle.doubled.specs.Passes.{blockOf, nodesIn}
 use Rattle.passes.proofs.Watched.{wordsRest, words-start, words-stop, words-fault, words-go}
 use borrow.Author.Needs.{needs}
 use Rattle.passes.proofs.cells.cells.Statement.{statement}

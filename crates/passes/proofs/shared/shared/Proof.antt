@@ -7,7 +7,7 @@ use denote.Ref.{now}
 use Rattle.rules.specs.Laws.Tokens.{item-ahead}
 use Rattle.passes.specs.Rows.{rowsFrom}
 use Rattle.rules.specs.Laws.Events.{eventsAt}
-use Rattle.passes.specs.Passes.{blockOf, nodesIn}
+use Rattle.doubled.specs.Passes.{blockOf, nodesIn}
 use Rattle.passes.proofs.Phandles.{rowsRest, rows-start, rows-stop, rows-fault, rows-go, turn-number}
 use borrow.Author.Needs.{needs}
 use Rattle.passes.proofs.shared.shared.Statement.{statement}

@@ -1,11 +1,8 @@
 -- `above` meets its contract. The invariant: what is marked, and what is above the node that is come to, are the whole.
 use mathlib.Core.Logic.{inl, inr}
-use Prim.Native.Nat.{_-_}
 use native.Mathlib.Omega.{arith}
 use denote.Ref.{now}
-use Rattle.rules.specs.Ceilings.{nodeCeiling}
-use Rattle.rules.specs.Space.{namesAt}
-use Rattle.picks.proofs.Places.{names-at, put-at}
+use Rattle.rules.specs.Laws.Kept.{node-word, names-at, put-in-part}
 use Rattle.picks.proofs.Marking.{Climbing, climbing-first, climbing-done, climbing-more, up-small}
 use borrow.Author.Needs.{needs}
 use Rattle.picks.proofs.marks.above.Statement.{statement}
@@ -30,8 +27,7 @@ up-requires : tie.Need-up-requires Inv-loop μ-loop
 up-requires c κs = search needs
 
 add-put-word-of : tie.Need-add-put-word-of Inv-loop μ-loop
-unfolding nodeCeiling
-add-put-word-of c = let h = up-small (c .before .before .before .before .before .before .before .args .count) (now (c .before .before .before .before .before .before .before .args .work)) (c .before .before .before .before .before .before .before .pre .0) (c .before .before .before .before .before .loop .work) (c .before .before .before .before .before .before .before .args .j) (c .before .before .before .before .before .loop .left) (c .before .before .before .before .before .loop .at) (c .before .before .before .before .before .loop .inv) (omega (arith, c .before .before .before .if1 .left)) (c .before .up .result) (c .before .up .ensures) in search needs
+add-put-word-of c = let w = node-word in let h = up-small (c .before .before .before .before .before .before .before .args .count) (now (c .before .before .before .before .before .before .before .args .work)) (c .before .before .before .before .before .before .before .pre .0) (c .before .before .before .before .before .loop .work) (c .before .before .before .before .before .before .before .args .j) (c .before .before .before .before .before .loop .left) (c .before .before .before .before .before .loop .at) (c .before .before .before .before .before .loop .inv) (omega (arith, c .before .before .before .if1 .left)) (c .before .up .result) (c .before .up .ensures) in search needs
 
 put-word-of-requires : tie.Need-put-word-of-requires Inv-loop μ-loop
 put-word-of-requires c κs = search needs
@@ -43,7 +39,7 @@ loop-less : tie.Need-loop-less Inv-loop μ-loop
 loop-less c = omega (arith, c .before .before .before .before .before .before .before .loop-test .taken)
 
 loop-again : tie.Need-loop-again Inv-loop μ-loop
-loop-again c = climbing-more (c .before .before .before .before .before .before .before .before .before .before .args .count) (now (c .before .before .before .before .before .before .before .before .before .before .args .work)) (c .before .before .before .before .before .before .before .before .before .before .pre .0) (c .before .before .before .before .before .before .before .before .loop .work) (c .before .before .before .before .before .before .before .before .before .before .args .j) (c .before .before .before .before .before .before .before .before .loop .left) (c .before .before .before .before .before .before .before .before .loop .at) (c .before .before .before .before .before .before .before .before .loop .inv) (c .before .before .before .before .before .before .before .loop-test .taken) (omega (arith, c .before .before .before .before .before .before .if1 .left)) (c .before .before .before .before .up .result) (c .before .before .before .before .up .ensures) _ (put-at (c .before .before .before .before .before .before .before .before .loop .work) _ 14336 namesAt (c .before .before .before .before .up .result) 1 names-at (c .before .before .put-word-of .ensures))
+loop-again c = climbing-more (c .before .before .before .before .before .before .before .before .before .before .args .count) (now (c .before .before .before .before .before .before .before .before .before .before .args .work)) (c .before .before .before .before .before .before .before .before .before .before .pre .0) (c .before .before .before .before .before .before .before .before .loop .work) (c .before .before .before .before .before .before .before .before .before .before .args .j) (c .before .before .before .before .before .before .before .before .loop .left) (c .before .before .before .before .before .before .before .before .loop .at) (c .before .before .before .before .before .before .before .before .loop .inv) (c .before .before .before .before .before .before .before .loop-test .taken) (omega (arith, c .before .before .before .before .before .before .if1 .left)) (c .before .before .before .before .up .result) (c .before .before .before .before .up .ensures) _ (put-in-part names-at (c .before .before .before .before .before .before .before .before .loop .work) _ (c .before .before .before .before .up .result) 1 (c .before .before .put-word-of .ensures))
 
 same-length-2 : tie.Need-same-length-2 Inv-loop μ-loop
 same-length-2 c = c .before .loop .inv .only .size

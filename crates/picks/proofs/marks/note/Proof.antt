@@ -4,10 +4,8 @@ use mathlib.Core.List.{List}
 use Prim.Native.Nat.{ℕ, _-_, _≤_}
 use native.Mathlib.Omega.{arith}
 use denote.Ref.{now}
-use Rattle.rules.specs.Ceilings.{nodeCeiling}
-use Rattle.rules.specs.Space.{marksAt, listAt}
+use Rattle.rules.specs.Laws.Kept.{node-word, marks-at, list-at, word-in-part, put-in-part}
 use Rattle.picks.specs.Marks.{Noted, listIn, Keeps}
-use Rattle.picks.proofs.Places.{marks-at, list-at, word-at, put-at}
 use Rattle.picks.proofs.Marking.{noted-first, node-inside, noted-keeps, noted-more, noted-done}
 use borrow.Author.Needs.{needs}
 use Rattle.picks.proofs.marks.note.Statement.{statement}
@@ -23,8 +21,7 @@ loop-holds : tie.Need-loop-holds Inv-loop μ-loop
 loop-holds c = (omega arith, noted-first (c .before .args .count) (now (c .before .args .work)) (c .before .pre .0) (c .before .pre .1 .1 .1))
 
 add-word-of : tie.Need-add-word-of Inv-loop μ-loop
-unfolding nodeCeiling
-add-word-of c = let h = c .before .before .before .before .pre .1 .0 in search needs
+add-word-of c = let w = node-word in let h = c .before .before .before .before .pre .1 .0 in search needs
 
 word-of-requires : tie.Need-word-of-requires Inv-loop μ-loop
 word-of-requires c κs = search needs
@@ -33,14 +30,13 @@ cast-j : tie.Need-cast-j Inv-loop μ-loop
 cast-j c = search needs
 
 add-put-word-of : tie.Need-add-put-word-of Inv-loop μ-loop
-unfolding nodeCeiling
-add-put-word-of c = let h = node-inside (c .before .before .before .before .before .before .args .count) (now (c .before .before .before .before .before .before .args .work)) (c .before .before .before .before .before .before .pre .0) (c .before .before .before .before .loop .work) (c .before .before .before .before .loop .k) (c .before .before .before .before .loop .inv .1) (omega (arith, c .before .before .before .loop-test .taken, c .before .before .before .before .before .before .pre .1 .0)) (c .before .word-of .result) (word-at (c .before .before .before .before .loop .work) 10240 listAt (c .before .before .before .before .loop .k) (c .before .word-of .result) list-at (c .before .word-of .ensures)) (c .before .before .before .before .before .before .pre .1 .1 .0 (c .before .before .before .before .loop .k) (c .before .before .before .loop-test .taken)) in let g = c .before .before .before .before .before .before .pre .0 .1 .few in search needs
+add-put-word-of c = let w = node-word in let h = node-inside (c .before .before .before .before .before .before .args .count) (now (c .before .before .before .before .before .before .args .work)) (c .before .before .before .before .before .before .pre .0) (c .before .before .before .before .loop .work) (c .before .before .before .before .loop .k) (c .before .before .before .before .loop .inv .1) (omega (arith, c .before .before .before .loop-test .taken, c .before .before .before .before .before .before .pre .1 .0)) (c .before .word-of .result) (word-in-part list-at (c .before .before .before .before .loop .work) (c .before .before .before .before .loop .k) (c .before .word-of .result) (c .before .word-of .ensures)) (c .before .before .before .before .before .before .pre .1 .1 .0 (c .before .before .before .before .loop .k) (c .before .before .before .loop-test .taken)) in let g = c .before .before .before .before .before .before .pre .0 .1 .few in search needs
 
 put-word-of-requires : tie.Need-put-word-of-requires Inv-loop μ-loop
 put-word-of-requires c κs = search needs
 
 above-requires : tie.Need-above-requires Inv-loop μ-loop
-above-requires c κs = (subst (λ (ws : List ℕ). Keeps ws (c .before .before .before .before .before .before .before .before .before .before .args .count)) (sym (put-at (c .before .before .before .before .before .before .before .before .loop .work) (c .before .before .before .put-word-of .last .0) 8192 marksAt (c .before .before .before .before .before .word-of .result) 1 marks-at (c .before .before .before .put-word-of .ensures))) (noted-keeps (c .before .before .before .before .before .before .before .before .before .before .args .count) (now (c .before .before .before .before .before .before .before .before .before .before .args .work)) (c .before .before .before .before .before .before .before .before .before .before .pre .0) (c .before .before .before .before .before .before .before .before .loop .work) (c .before .before .before .before .before .before .before .before .loop .k) (c .before .before .before .before .before .before .before .before .loop .inv .1) (omega (arith, c .before .before .before .before .before .before .before .loop-test .taken, c .before .before .before .before .before .before .before .before .before .before .pre .1 .0)) (c .before .before .before .before .before .word-of .result) (word-at (c .before .before .before .before .before .before .before .before .loop .work) 10240 listAt (c .before .before .before .before .before .before .before .before .loop .k) (c .before .before .before .before .before .word-of .result) list-at (c .before .before .before .before .before .word-of .ensures)) (c .before .before .before .before .before .before .before .before .before .before .pre .1 .1 .0 (c .before .before .before .before .before .before .before .before .loop .k) (c .before .before .before .before .before .before .before .loop-test .taken))), node-inside (c .before .before .before .before .before .before .before .before .before .before .args .count) (now (c .before .before .before .before .before .before .before .before .before .before .args .work)) (c .before .before .before .before .before .before .before .before .before .before .pre .0) (c .before .before .before .before .before .before .before .before .loop .work) (c .before .before .before .before .before .before .before .before .loop .k) (c .before .before .before .before .before .before .before .before .loop .inv .1) (omega (arith, c .before .before .before .before .before .before .before .loop-test .taken, c .before .before .before .before .before .before .before .before .before .before .pre .1 .0)) (c .before .before .before .before .before .word-of .result) (word-at (c .before .before .before .before .before .before .before .before .loop .work) 10240 listAt (c .before .before .before .before .before .before .before .before .loop .k) (c .before .before .before .before .before .word-of .result) list-at (c .before .before .before .before .before .word-of .ensures)) (c .before .before .before .before .before .before .before .before .before .before .pre .1 .1 .0 (c .before .before .before .before .before .before .before .before .loop .k) (c .before .before .before .before .before .before .before .loop-test .taken)))
+above-requires c κs = (subst (λ (ws : List ℕ). Keeps ws (c .before .before .before .before .before .before .before .before .before .before .args .count)) (sym (put-in-part marks-at (c .before .before .before .before .before .before .before .before .loop .work) (c .before .before .before .put-word-of .last .0) (c .before .before .before .before .before .word-of .result) 1 (c .before .before .before .put-word-of .ensures))) (noted-keeps (c .before .before .before .before .before .before .before .before .before .before .args .count) (now (c .before .before .before .before .before .before .before .before .before .before .args .work)) (c .before .before .before .before .before .before .before .before .before .before .pre .0) (c .before .before .before .before .before .before .before .before .loop .work) (c .before .before .before .before .before .before .before .before .loop .k) (c .before .before .before .before .before .before .before .before .loop .inv .1) (omega (arith, c .before .before .before .before .before .before .before .loop-test .taken, c .before .before .before .before .before .before .before .before .before .before .pre .1 .0)) (c .before .before .before .before .before .word-of .result) (word-in-part list-at (c .before .before .before .before .before .before .before .before .loop .work) (c .before .before .before .before .before .before .before .before .loop .k) (c .before .before .before .before .before .word-of .result) (c .before .before .before .before .before .word-of .ensures)) (c .before .before .before .before .before .before .before .before .before .before .pre .1 .1 .0 (c .before .before .before .before .before .before .before .before .loop .k) (c .before .before .before .before .before .before .before .loop-test .taken))), node-inside (c .before .before .before .before .before .before .before .before .before .before .args .count) (now (c .before .before .before .before .before .before .before .before .before .before .args .work)) (c .before .before .before .before .before .before .before .before .before .before .pre .0) (c .before .before .before .before .before .before .before .before .loop .work) (c .before .before .before .before .before .before .before .before .loop .k) (c .before .before .before .before .before .before .before .before .loop .inv .1) (omega (arith, c .before .before .before .before .before .before .before .loop-test .taken, c .before .before .before .before .before .before .before .before .before .before .pre .1 .0)) (c .before .before .before .before .before .word-of .result) (word-in-part list-at (c .before .before .before .before .before .before .before .before .loop .work) (c .before .before .before .before .before .before .before .before .loop .k) (c .before .before .before .before .before .word-of .result) (c .before .before .before .before .before .word-of .ensures)) (c .before .before .before .before .before .before .before .before .before .before .pre .1 .1 .0 (c .before .before .before .before .before .before .before .before .loop .k) (c .before .before .before .before .before .before .before .loop-test .taken)))
 
 add-k : tie.Need-add-k Inv-loop μ-loop
 add-k c = search needs
@@ -49,7 +45,7 @@ loop-less : tie.Need-loop-less Inv-loop μ-loop
 loop-less c = omega (arith, c .before .before .before .before .before .before .before .before .before .before .loop-test .taken)
 
 loop-again : tie.Need-loop-again Inv-loop μ-loop
-loop-again c = (omega (arith, c .before .before .before .before .before .before .before .before .before .before .loop-test .taken), noted-more (c .before .before .before .before .before .before .before .before .before .before .before .before .before .args .count) (now (c .before .before .before .before .before .before .before .before .before .before .before .before .before .args .work)) (c .before .before .before .before .before .before .before .before .before .before .before .before .before .pre .0) (c .before .before .before .before .before .before .before .before .before .before .before .loop .work) (c .before .before .before .before .before .before .before .before .before .before .before .loop .k) (c .before .before .before .before .before .before .before .before .before .before .before .loop .inv .1) (omega (arith, c .before .before .before .before .before .before .before .before .before .before .loop-test .taken, c .before .before .before .before .before .before .before .before .before .before .before .before .before .pre .1 .0)) (c .before .before .before .before .before .before .before .before .word-of .result) (word-at (c .before .before .before .before .before .before .before .before .before .before .before .loop .work) 10240 listAt (c .before .before .before .before .before .before .before .before .before .before .before .loop .k) (c .before .before .before .before .before .before .before .before .word-of .result) list-at (c .before .before .before .before .before .before .before .before .word-of .ensures)) (c .before .before .before .before .before .before .before .before .before .before .before .before .before .pre .1 .1 .0 (c .before .before .before .before .before .before .before .before .before .before .before .loop .k) (c .before .before .before .before .before .before .before .before .before .before .loop-test .taken)) (c .before .before .before .before .before .before .put-word-of .last .0) (put-at (c .before .before .before .before .before .before .before .before .before .before .before .loop .work) (c .before .before .before .before .before .before .put-word-of .last .0) 8192 marksAt (c .before .before .before .before .before .before .before .before .word-of .result) 1 marks-at (c .before .before .before .before .before .before .put-word-of .ensures)) _ (c .before .before .above .ensures .0) (c .before .before .above .ensures .1))
+loop-again c = (omega (arith, c .before .before .before .before .before .before .before .before .before .before .loop-test .taken), noted-more (c .before .before .before .before .before .before .before .before .before .before .before .before .before .args .count) (now (c .before .before .before .before .before .before .before .before .before .before .before .before .before .args .work)) (c .before .before .before .before .before .before .before .before .before .before .before .before .before .pre .0) (c .before .before .before .before .before .before .before .before .before .before .before .loop .work) (c .before .before .before .before .before .before .before .before .before .before .before .loop .k) (c .before .before .before .before .before .before .before .before .before .before .before .loop .inv .1) (omega (arith, c .before .before .before .before .before .before .before .before .before .before .loop-test .taken, c .before .before .before .before .before .before .before .before .before .before .before .before .before .pre .1 .0)) (c .before .before .before .before .before .before .before .before .word-of .result) (word-in-part list-at (c .before .before .before .before .before .before .before .before .before .before .before .loop .work) (c .before .before .before .before .before .before .before .before .before .before .before .loop .k) (c .before .before .before .before .before .before .before .before .word-of .result) (c .before .before .before .before .before .before .before .before .word-of .ensures)) (c .before .before .before .before .before .before .before .before .before .before .before .before .before .pre .1 .1 .0 (c .before .before .before .before .before .before .before .before .before .before .before .loop .k) (c .before .before .before .before .before .before .before .before .before .before .loop-test .taken)) (c .before .before .before .before .before .before .put-word-of .last .0) (put-in-part marks-at (c .before .before .before .before .before .before .before .before .before .before .before .loop .work) (c .before .before .before .before .before .before .put-word-of .last .0) (c .before .before .before .before .before .before .before .before .word-of .result) 1 (c .before .before .before .before .before .before .put-word-of .ensures)) _ (c .before .before .above .ensures .0) (c .before .before .above .ensures .1))
 
 same-length : tie.Need-same-length Inv-loop μ-loop
 same-length c = c .before .loop .inv .1 .only .size

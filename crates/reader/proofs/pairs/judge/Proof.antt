@@ -3,7 +3,7 @@ use mathlib.Core.Path.{subst}
 use native.Mathlib.Omega.{arith}
 use denote.Ref.{now}
 use Rattle.rules.specs.Ceilings.{blobCeiling}
-use Rattle.passes.specs.Passes.{Inside}
+use Rattle.doubled.specs.Passes.{Inside}
 use Rattle.reader.proofs.Twins.{tables, is-doubled, is-cells, is-shared, is-none}
 use borrow.Author.Needs.{needs}
 use Rattle.reader.proofs.pairs.judge.Statement.{statement}

@@ -1,6 +1,5 @@
 -- `after_token` meets its contract: a case for each kind.
 use mathlib.Core.Path.{sym, ap, _∙_}
-use Prim.Native.Nat.{ℕ}
 use denote.Ref.{now}
 use borrow.Author.Tests.{not-true, not-false}
 use Rattle.rules.specs.Octets.{Bytes, wordAt}

@@ -1,7 +1,6 @@
 -- `is_cells` meets its contract: a case for each row.
 use mathlib.Core.Path.{refl}
 use Rattle.rules.specs.Octets.{ascii}
-use Rattle.references.specs.Rows.{meaning, isNamed}
 use borrow.Author.Needs.{needs}
 use Rattle.references.proofs.rows.is_cells.Statement.{statement}
 use Rattle.references.proofs.rows.is_cells.Tie as tie

@@ -1,7 +1,7 @@
 -- `is_provided` meets its contract: a test for each name.
 use mathlib.Core.Path.{refl}
 use mathlib.Core.Bool.{true}
-use lib.ListN.{take, drop}
+use lib.ListN.{take}
 use denote.Ref.{now}
 use Rattle.rules.specs.Octets.{Bytes, ascii, same}
 use Rattle.rules.specs.Tree.{among}

@@ -15,10 +15,9 @@ use Rattle.rules.specs.Blob.{headerIn, entriesFrom, entriesIn, misplaced
 use Rattle.rules.specs.Events.{shapeJudged}
 use Rattle.rules.specs.Reader.{eventsRead}
 use Rattle.rules.specs.Laws.Tests.{by-test, by-le}
-use Rattle.rules.specs.Laws.Header.{Laid}
 use Rattle.rules.specs.Laws.Secrecy.Alike.{Veiled}
 use Rattle.rules.specs.Laws.Secrecy.Tokens.{Clear, word-same, part-same, Hidden, Open, behind-all, shape-kept, events-kept}
-use Rattle.rules.specs.Laws.Blob.{entries-cut, entries-last, entries-more}
+use Rattle.rules.specs.Laws.Blob.{entries-cut, entries-last, entries-more, Inside}
 
 -- ---- the same bytes
 
@@ -39,7 +38,7 @@ entriesFrom-same s c (suc fuel) at limit h = by-test (ltb limit (at + 16))
     (λ f. entries-more s fuel at limit e f
     ∙ rw (p, q, entriesFrom-same s c fuel (at + 16) limit h) (sym (entries-more c fuel at limit e (rw (p, q) at f)))))
 
-module _ (S : ℕ → Bytes → Bool) (host other : Bytes) (size : length host ≡ length other) (laid : Laid host)
+module _ (S : ℕ → Bytes → Bool) (host other : Bytes) (size : length host ≡ length other) (laid : Inside host)
     (agree : (x : ℕ) → (getD host x 0 ≡ getD other x 0) ⊎ Hidden S x [] 0 (eventsRead host)) where
   structure : Bytes
   structure = part host (headerIn host .structure) (headerIn host .structureSize)
@@ -61,7 +60,7 @@ module _ (S : ℕ → Bytes → Bool) (host other : Bytes) (size : length host �
   clear-below x p q = elim (agree x) [ inl e ↦ e | inr m ↦ absurd (omega (arith, hidden-inside x m .0)) ]
 
   clear-behind : (j : ℕ) → Clear host other (headerIn host .strings) j
-  clear-behind j x p q = elim (agree x) [ inl e ↦ e | inr m ↦ absurd (omega (arith, hidden-inside x m .1, laid .strings)) ]
+  clear-behind j x p q = elim (agree x) [ inl e ↦ e | inr m ↦ absurd (omega (arith, hidden-inside x m .1, laid .apart)) ]
 
   word : (i : ℕ) → i ≤ 36 → wordAt host i ≡ wordAt other i
   word i h = word-same host other i (λ x p q. clear-below x (omega arith) (omega (arith, laid .reservations, laid .entries)))

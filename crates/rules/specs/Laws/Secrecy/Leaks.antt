@@ -28,7 +28,7 @@ use Rattle.rules.specs.Laws.Formed.{accepted, accepting, read-formed, co
 use Rattle.rules.specs.Laws.Secrecy.Alike.{Alike, ended, paired, AlikeTree, Veiled, veiled-tree, sieve-same, doubled-same, wordsJudged-same, shared-same}
 use Rattle.rules.specs.Laws.Secrecy.Tokens.{Hidden, Open}
 use Rattle.rules.specs.Laws.Secrecy.Answers.{frame-same, open-read, open-copied, listed-same, copied-same, cpusJudged-same, idsFrom-same, hidden-same}
-use Rattle.rules.specs.Laws.Header.{Laid, header-laid}
+use Rattle.rules.specs.Laws.Blob.{Inside, header-inside}
 use Rattle.rules.specs.Laws.Secrecy.Blob.{headerJudged-same, shape-same, events-same}
 
 -- ---- a withheld byte is a byte of a hidden value
@@ -82,8 +82,8 @@ module _ (r : Rules) (cells : CellsRead r) (host other : Bytes) (q : Request) (r
       inr (hidden-nodes S x (eventsRead host) [] 0 (k .0) (k .0) (omega arith) (k .2)))
       (λ e. inl (g .bytes x e))
 
-  laid : Laid host
-  laid = header-laid host (accepted host read .header)
+  laid : Inside host
+  laid = header-inside host (accepted host read .header)
 
   veil : Veiled (Open S) [] 0 (eventsRead host) (eventsRead other)
   veil = events-same S host other (g .size) laid agree

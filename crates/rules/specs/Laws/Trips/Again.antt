@@ -30,8 +30,8 @@ use Rattle.rules.specs.Laws.BlobBack.{reads-back}
 use Rattle.rules.specs.Laws.ReadBack.{structureOf, stringsOf, writes}
 use Rattle.rules.specs.Laws.Trips.Tests.{none-fails, roomy, first-passes, startTests, start-tests, finishTests, finish-tests}
 use Rattle.rules.specs.Laws.Trips.Calls.{boot-held, run-on, goes-on}
-use Rattle.rules.specs.Laws.Trips.Finish.{nothing, start-held, length-with, finish-held}
-use Rattle.rules.specs.Laws.Trips.Spelled.{Ready, Fitting, possible, next-place, next-string, spelled-runs}
+use Rattle.rules.specs.Laws.Trips.Finish.{nothing, start-held, length-with, data-length, strings-length, finish-held}
+use Rattle.rules.specs.Laws.Trips.Spelled.{Ready, Fitting, possible, spelled-runs}
 
 -- ---- finishing is accepted
 
@@ -43,8 +43,8 @@ module _ (rs : List Entry) (cpu n m : ℕ) where
       let l = r .lent in
       let i = r .stringsLent in
       let b = length-with rs cpu w in
-      let p = next-place rs cpu n m w 0 ended d r in
-      let q = next-string rs cpu n m w 0 ended d r in
+      let p = data-length rs cpu w d (r .held) in
+      let q = strings-length rs cpu w d (r .held) in
       let t : finishJudged (d .state) (length (d .«data»)) (length (d .strings)) ≡ passes =
       finish-tests (d .state) (length (d .«data»)) (length (d .strings))
       ∙ first-passes (finishTests (d .state) (length (d .«data»)) (length (d .strings))) (
@@ -200,6 +200,5 @@ unfolding guestOf guestBytes
 guest-is-written r host q lent strings g room₁ room₂ =
     let es : List Event = guestEvents r (asked (frame (treeRead host)) q) (treeRead host) (eventsRead host) in
     let n = blob-length [] 0 es in
-    let k = strings-after es in
     let s = start-accepted [] (length lent) none-invalid none-overlap (omega arith) (omega arith) in
-    spelled-written [] lent strings [] s es (guest-fits r host q g .shape) room₁ (omega arith)
+    spelled-written [] lent strings [] s es (guest-fits r host q g .shape) room₁ room₂

@@ -13,7 +13,7 @@ use Rattle.rules.specs.Outcome.{Outcome, gives, refuses, passes}
 use Rattle.rules.specs.Reservations.{Entry, anyInvalid, block}
 use Rattle.rules.specs.Writer.{total, headerBytes, headerOf, startBytes, startJudged, start, startData, finishJudged, finish, finishData}
 use Rattle.rules.specs.Written.{Blocks, writeEvents, blobWith, blobOf, Call, Desk, run, finished, started, written, said, bootSaid}
-use Rattle.rules.specs.Laws.Octets.{length-be32, length-zeros, length-put, take-put}
+use Rattle.rules.specs.Laws.Octets.{length-be32, length-zeros, put-front, length-put, take-put}
 use Rattle.rules.specs.Laws.Verdicts.{then-passes, gives-refuses}
 use Rattle.rules.specs.Laws.Header.{length-header, length-block}
 use Rattle.rules.specs.Laws.Trips.Tests.{none-fails, roomy, startTests, start-tests, finishTests, finish-tests}
@@ -67,10 +67,6 @@ length-with rs cpu w =
       length-be32 9,
     )
     (omega (arith, length-header (s + n + length (w .strings)) s (s + n) cpu (length (w .strings)) n, length-start rs, length-block rs))
-
-put-front : (d xs : Bytes) → put d 0 xs ≡ xs ++ drop (length xs) d
-unfolding put
-put-front d xs = rw (zero-add (length xs))
 
 -- x laid behind the first n bytes, and then h in front: up to the end of x it is h, those of the n that h leaves, and x
 header-laid : (d : Bytes) (n : ℕ) (x h : Bytes) → n + length x ≤ length d → length h ≤ n

@@ -21,7 +21,7 @@ use Rattle.rules.specs.declared.Token.the-variants.{Item, End, Cut}
 use Rattle.rules.specs.declared.Kind.the-variants.{Begin, EndNode, Prop, Nop}
 use Rattle.rules.specs.Laws.Tests.{by-test, never}
 use Rattle.rules.specs.Laws.Verdicts.{gives-refuses}
-use Rattle.rules.specs.Laws.Shape.{opening-passes, closing-passes, holding-passes}
+use Rattle.rules.specs.Laws.Shape.{some-open, some-nodes, opening-passes, closing-passes, holding-passes}
 use Rattle.rules.specs.Grammar.{Forest, empty, node, Word, Pads, Stands, Props, no-props, nop-props, prop, Nodes, no-nodes, nop-nodes, a-node, Structure, a-root, size, height, PropsNamed, Named, Limits, tellProps, tell}
 use Rattle.rules.specs.Laws.Trips.Found.{Tagged, tag-found, Begun, begin-found, Propped, prop-found, stands-found}
 use Rattle.rules.specs.Laws.Tokens.{Seen, token-seen}
@@ -225,14 +225,6 @@ module _ (strings : Bytes) where
 
 abbrev walk : List ℕ → ℕ → Bool → Walk
 walk stack count ended = record { stack = stack; count = count; ended = ended }
-
-some-open : 1 ≤ openCeiling
-unfolding openCeiling
-some-open = omega arith
-
-some-nodes : 1 ≤ nodeCeiling
-unfolding nodeCeiling
-some-nodes = omega arith
 
 module _ (b : Block) where
   abbrev s : Bytes

@@ -22,7 +22,7 @@ use Rattle.rules.specs.Laws.Trips.Tests.{first-passes, beginTests, begin
 use Rattle.rules.specs.Laws.Trips.Calls.{Held, begunDesk, heldDesk, closedDesk, call-held, run-on, goes-on}
 use Rattle.rules.specs.Laws.Trips.Finish.{length-start, data-length, strings-length}
 use Rattle.rules.specs.Laws.Writer.{length-begin, length-end, length-property}
-use Rattle.rules.specs.Laws.Shape.{reads-valid}
+use Rattle.rules.specs.Laws.Shape.{some-open, reads-valid}
 
 -- ---- what a desk is ready for
 
@@ -69,13 +69,6 @@ module _ (rs : List Entry) (cpu : ℕ) (n m : ℕ) where
         possible-state (d .state) (length (d .«data»)) k (r .going) (omega arith) (omega (arith, r .whole)) (omega arith) (omega arith) o
         (omega arith) (omega arith)
 
-    -- the next place of the data
-    pub next-place : d .state .dataLength ≡ s + length (w .structure)
-    next-place = data-length rs cpu w d (r .held)
-
-    pub next-string : d .state .stringsLength ≡ length (w .strings)
-    next-string = strings-length rs cpu w d (r .held)
-
     -- opening a node
     begin-accepted : (name : Bytes) → nodeNameValid name ≡ true → depth < openCeiling
         → s + (length (w .structure) + length (beginBytes name)) ≤ room n
@@ -84,7 +77,7 @@ module _ (rs : List Entry) (cpu : ℕ) (n m : ℕ) where
     unfolding call beginNode beginNodeData writeEvent writeEvents said bootSaid
     begin-accepted name v o f g =
         let k : ℕ = length (d .«data») in
-        let a = next-place in
+        let a = data-length rs cpu w d (r .held) in
         let l = r .lent in
         let room-left : d .state .dataLength + length (beginBytes name) ≤ room k = omega arith in
         let t : beginJudged (d .state) k name ≡ passes =
@@ -121,8 +114,8 @@ module _ (rs : List Entry) (cpu : ℕ) (n m : ℕ) where
     hold-accepted name value v p o f g =
         let k : ℕ = length (d .«data») in
         let j : ℕ = length (d .strings) in
-        let a = next-place in
-        let b = next-string in
+        let a = data-length rs cpu w d (r .held) in
+        let b = strings-length rs cpu w d (r .held) in
         let l = r .lent in
         let i = r .stringsLent in
         let x : propertyAt (d .state) (d .strings) name value ≡ propertyBytes (nameOffset name (w .strings)) value =
@@ -176,7 +169,7 @@ module _ (rs : List Entry) (cpu : ℕ) (n m : ℕ) where
     unfolding call endNode endNodeData writeEvent writeEvents said bootSaid
     end-accepted o f g =
         let k : ℕ = length (d .«data») in
-        let a = next-place in
+        let a = data-length rs cpu w d (r .held) in
         let l = r .lent in
         let t : endJudged (d .state) k depth ≡ passes =
         end-tests (d .state) k depth
@@ -225,10 +218,6 @@ module _ (rs : List Entry) (cpu : ℕ) (n m : ℕ) where
   property-valid : (name : Bytes) → propertyNameReads name ≡ true → propertyNameValid name ≡ true
   unfolding propertyNameReads
   property-valid name h = h
-
-  some-open : 0 < openCeiling
-  unfolding openCeiling
-  some-open = omega arith
 
   -- there is room for what is held and for events
   pub record Fitting (w : Blocks) (es : List Event) : Type 0 where
@@ -311,7 +300,7 @@ module _ (rs : List Entry) (cpu : ℕ) (n m : ℕ) where
       → Runs w es (length stack) ended
   spelled-runs (all-said {ended = ended} z) w f = runs-none w ended
   spelled-runs (root {ended = ended} {place = place} {name = name} {es = es} z e t) w f =
-      runs-begin w es place 0 ended name (node-empty name e) some-open f
+      runs-begin w es place 0 ended name (node-empty name e) (omega (arith, some-open)) f
       (spelled-runs t (writeEvent w (opens place name)) (fitting-begin w es place name f .2))
   spelled-runs (child {ended = ended} {i = i} {place = place} {is = is} {name = name} {es = es} e o q t) w f =
       runs-begin w es place (length (i ∷ is)) ended name (reads-valid name e) o f

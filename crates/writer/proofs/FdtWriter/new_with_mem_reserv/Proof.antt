@@ -1,15 +1,15 @@
 -- `FdtWriter::new_with_mem_reserv` meets its contract.
 use mathlib.Core.Path.{_≡_, refl, sym, ap, _∙_}
 use mathlib.Core.Bool.{false}
-use Prim.Native.Nat.{ℕ, _≤_}
-use native.Mathlib.Omega.{arith}
+use Prim.Native.Nat.{ℕ}
 use lib.ListN.{length, take}
 use denote.Ref.{now}
 use Rattle.rules.specs.Outcome.{passes}
 use Rattle.rules.specs.Writer.{fresh, startJudged}
 use Rattle.reservation.specs.Made.{entriesOf}
-use Rattle.writer.specs.Judged.{verdictOf}
-use Rattle.writer.proofs.Starts.{length-start, start-passed, start-refused, start-done}
+use Rattle.judge.specs.Judged.{verdictOf}
+use Rattle.judge.proofs.Starts.{length-start}
+use Rattle.writer.proofs.Starts.{start-refused, start-done}
 use borrow.Author.Needs.{needs}
 use Rattle.writer.proofs.FdtWriter.new_with_mem_reserv.Statement.{statement}
 use Rattle.writer.proofs.FdtWriter.new_with_mem_reserv.Tie as tie
@@ -27,10 +27,10 @@ enum-told : tie.Need-enum-told
 enum-told c = search needs
 
 write-start-requires : tie.Need-write-start-requires
-write-start-requires c κs = start-passed (length (now (c .before .before .before .before .before .args .«data»))) (entriesOf (c .before .before .before .before .before .args .reservations)) (c .before .before .before .before .before .args .count) (ap verdictOf (sym (c .before .enum-told .given .1)) ∙ c .before .before .before .judge-start .ensures) .0
+write-start-requires c κs = search needs
 
 start-size-requires : tie.Need-start-size-requires
-start-size-requires c κs = start-passed (length (now (c .before .before .before .before .before .before .before .before .args .«data»))) (entriesOf (c .before .before .before .before .before .before .before .before .args .reservations)) (c .before .before .before .before .before .before .before .before .args .count) (ap verdictOf (sym (c .before .before .before .before .enum-told .given .1)) ∙ c .before .before .before .before .before .before .judge-start .ensures) .0
+start-size-requires c κs = search needs
 
 fresh-requires-2 : tie.Need-fresh-requires-2
 fresh-requires-2 c κs = search needs
@@ -47,9 +47,8 @@ returns-2 c =
     let rs = c .before .before .before .before .before .before .before .before .before .before .args .reservations in
     let v : passes ≡ startJudged (length d) (entriesOf rs) (c .before .before .before .before .before .before .before .before .before .before .args .count) = ap verdictOf (sym (c .before .before .before .before .before .before .enum-told .given .1)) ∙ c .before .before .before .before .before .before .before .before .judge-start .ensures in
     let long : length rs ≡ 32 = search needs in
-    let p : c .before .before .before .before .before .before .before .before .before .before .args .count ≤ 32 = start-passed (length d) (entriesOf rs) (c .before .before .before .before .before .before .before .before .before .before .args .count) v .0 in
     start-done d (entriesOf rs) (c .before .before .before .before .before .before .before .before .before .before .args .count) _ _
-    (c .fresh2 .ensures ∙ ap (λ (k : ℕ). fresh k false) (c .before .start-size .ensures ∙ sym (length-start rs (c .before .before .before .before .before .before .before .before .before .before .args .count) (omega arith))))
+    (c .fresh2 .ensures ∙ ap (λ (k : ℕ). fresh k false) (c .before .start-size .ensures ∙ sym (length-start rs (c .before .before .before .before .before .before .before .before .before .before .args .count) long)))
     v
     (c .before .before .before .before .write-start .ensures)
 

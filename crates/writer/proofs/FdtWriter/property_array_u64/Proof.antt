@@ -11,11 +11,11 @@ use borrow.Author.Needs.{needs}
 use Rattle.writer.proofs.FdtWriter.property_array_u64.Statement.{statement}
 use Rattle.writer.proofs.FdtWriter.property_array_u64.Tie as tie
 
-mul-property-size : tie.Need-mul-property-size
-mul-property-size c = search needs
+longs-size-requires : tie.Need-longs-size-requires
+longs-size-requires c κs = search needs
 
-property-size-requires : tie.Need-property-size-requires
-property-size-requires c κs = search needs
+state-requires : tie.Need-state-requires
+state-requires c κs = search needs
 
 property-requires : tie.Need-property-requires
 property-requires c κs = search needs
@@ -31,7 +31,7 @@ property-longs-requires c κs = search needs
 
 with-property-requires : tie.Need-with-property-requires
 with-property-requires c κs =
-    let p = at-place (stateOf (c .before .before .before .before .before .before .before .before .before .before .before .before .before .before .before .args .self)) (length (now (c .before .before .before .before .before .before .before .before .before .before .before .before .before .before .before .args .«data»))) (now (c .before .before .before .before .before .before .before .before .before .before .before .before .before .before .before .args .strings)) false (now (c .before .before .before .before .before .before .before .before .before .before .before .before .before .before .before .args .name)) (c .before .before .before .before .before .before .before .before .before .before .property-size .result) _ _ (c .before .before .before .before .before .before .offset .given .1) (c .before .before .before .before .before .before .before .before .property .ensures) in
+    let p = at-place (stateOf (c .before .before .before .before .before .before .before .before .before .before .before .before .before .before .before .before .args .self)) (length (now (c .before .before .before .before .before .before .before .before .before .before .before .before .before .before .before .before .args .«data»))) (now (c .before .before .before .before .before .before .before .before .before .before .before .before .before .before .before .before .args .strings)) false (now (c .before .before .before .before .before .before .before .before .before .before .before .before .before .before .before .before .args .name)) (c .before .before .before .before .before .before .before .before .before .before .before .longs-size .result) _ _ (c .before .before .before .before .before .before .before .before .before .before .state .ensures) _ (c .before .before .before .before .before .before .offset .given .1) (c .before .before .before .before .before .before .before .before .property .ensures) in
     (p .dataSmall, p .stringsSmall)
 
 same-length : tie.Need-same-length
@@ -39,8 +39,8 @@ same-length c = search needs
 
 returns : tie.Need-returns
 returns c =
-    let value = words64 (now (c .before .before .before .before .before .before .before .before .before .before .args .cells)) in
-    property-refused (stateOf (c .before .before .before .before .before .before .before .before .before .before .args .self)) (now (c .before .before .before .before .before .before .before .before .before .before .args .«data»)) (now (c .before .before .before .before .before .before .before .before .before .before .args .strings)) false (now (c .before .before .before .before .before .before .before .before .before .before .args .name)) value (c .before .before .before .before .before .property-size .result) (size-of _ _ value (c .before .before .before .before .before .property-size .ensures) (length-words64 (now (c .before .before .before .before .before .before .before .before .before .before .args .cells)))) _ (c .before .before .before .property .ensures) _ (c .before .e .given .1)
+    let value = words64 (now (c .before .before .before .before .before .before .before .before .before .before .before .args .cells)) in
+    property-refused (stateOf (c .before .before .before .before .before .before .before .before .before .before .before .args .self)) (now (c .before .before .before .before .before .before .before .before .before .before .before .args .«data»)) (now (c .before .before .before .before .before .before .before .before .before .before .before .args .strings)) false (now (c .before .before .before .before .before .before .before .before .before .before .before .args .name)) value (c .before .before .before .before .before .before .longs-size .result) (size-of _ _ value (c .before .before .before .before .before .before .longs-size .ensures) (length-words64 (now (c .before .before .before .before .before .before .before .before .before .before .before .args .cells)))) _ (c .before .before .before .before .before .state .ensures) _ (c .before .before .before .property .ensures) _ (c .before .e .given .1)
 
 same-length-2 : tie.Need-same-length-2
 same-length-2 c = search needs
@@ -50,8 +50,8 @@ same-length-3 c = search needs
 
 returns-2 : tie.Need-returns-2
 returns-2 c =
-    let value = words64 (now (c .before .before .before .before .before .before .before .before .before .before .before .before .before .before .before .before .before .before .args .cells)) in
-    property-done (stateOf (c .before .before .before .before .before .before .before .before .before .before .before .before .before .before .before .before .before .before .args .self)) (now (c .before .before .before .before .before .before .before .before .before .before .before .before .before .before .before .before .before .before .args .«data»)) (now (c .before .before .before .before .before .before .before .before .before .before .before .before .before .before .before .before .before .before .args .strings)) false (now (c .before .before .before .before .before .before .before .before .before .before .before .before .before .before .before .before .before .before .args .name)) value (c .before .before .before .before .before .before .before .before .before .before .before .before .before .property-size .result) (size-of _ _ value (c .before .before .before .before .before .before .before .before .before .before .before .before .before .property-size .ensures) (length-words64 (now (c .before .before .before .before .before .before .before .before .before .before .before .before .before .before .before .before .before .before .args .cells)))) _ (c .before .before .before .before .before .before .before .before .before .before .before .property .ensures) _ (c .before .before .before .before .before .before .before .before .before .offset .given .1) _ _ _ (c .before .before .before .before .before .before .property-longs .ensures) (c .before .before .with-property .ensures .1) (c .before .before .with-property .ensures .0)
+    let value = words64 (now (c .before .before .before .before .before .before .before .before .before .before .before .before .before .before .before .before .before .before .before .args .cells)) in
+    property-done (stateOf (c .before .before .before .before .before .before .before .before .before .before .before .before .before .before .before .before .before .before .before .args .self)) (now (c .before .before .before .before .before .before .before .before .before .before .before .before .before .before .before .before .before .before .before .args .«data»)) (now (c .before .before .before .before .before .before .before .before .before .before .before .before .before .before .before .before .before .before .before .args .strings)) false (now (c .before .before .before .before .before .before .before .before .before .before .before .before .before .before .before .before .before .before .before .args .name)) value (c .before .before .before .before .before .before .before .before .before .before .before .before .before .before .longs-size .result) (size-of _ _ value (c .before .before .before .before .before .before .before .before .before .before .before .before .before .before .longs-size .ensures) (length-words64 (now (c .before .before .before .before .before .before .before .before .before .before .before .before .before .before .before .before .before .before .before .args .cells)))) _ (c .before .before .before .before .before .before .before .before .before .before .before .before .before .state .ensures) _ (c .before .before .before .before .before .before .before .before .before .before .before .property .ensures) _ (c .before .before .before .before .before .before .before .before .before .offset .given .1) _ _ _ (c .before .before .before .before .before .before .property-longs .ensures) (c .before .before .with-property .ensures .1) (c .before .before .with-property .ensures .0)
 
 pub property-array-u64-spec : {M : Type 1} → statement M
-property-array-u64-spec = tie.close (tie.spec mul-property-size property-size-requires property-requires enum-known-e enum-known-offset property-longs-requires with-property-requires same-length returns same-length-2 same-length-3 returns-2)
+property-array-u64-spec = tie.close (tie.spec longs-size-requires state-requires property-requires enum-known-e enum-known-offset property-longs-requires with-property-requires same-length returns same-length-2 same-length-3 returns-2)

@@ -13,11 +13,11 @@ use Rattle.writer.proofs.FdtWriter.property_string.Tie as tie
 has-nul-requires : tie.Need-has-nul-requires
 has-nul-requires c κs = search needs
 
-add-property-size : tie.Need-add-property-size
-add-property-size c = search needs
+string-size-requires : tie.Need-string-size-requires
+string-size-requires c κs = search needs
 
-property-size-requires : tie.Need-property-size-requires
-property-size-requires c κs = search needs
+state-requires : tie.Need-state-requires
+state-requires c κs = search needs
 
 property-requires : tie.Need-property-requires
 property-requires c κs = search needs
@@ -33,7 +33,7 @@ property-string-requires c κs = search needs
 
 with-property-requires : tie.Need-with-property-requires
 with-property-requires c κs =
-    let p = at-place (stateOf (c .before .before .before .before .before .before .before .before .before .before .before .before .before .before .before .before .args .self)) (length (now (c .before .before .before .before .before .before .before .before .before .before .before .before .before .before .before .before .args .«data»))) (now (c .before .before .before .before .before .before .before .before .before .before .before .before .before .before .before .before .args .strings)) (c .before .before .before .before .before .before .before .before .before .before .before .has-nul .result) (now (c .before .before .before .before .before .before .before .before .before .before .before .before .before .before .before .before .args .name)) (c .before .before .before .before .before .before .before .before .before .before .property-size .result) _ _ (c .before .before .before .before .before .before .offset .given .1) (c .before .before .before .before .before .before .before .before .property .ensures) in
+    let p = at-place (stateOf (c .before .before .before .before .before .before .before .before .before .before .before .before .before .before .before .before .before .args .self)) (length (now (c .before .before .before .before .before .before .before .before .before .before .before .before .before .before .before .before .before .args .«data»))) (now (c .before .before .before .before .before .before .before .before .before .before .before .before .before .before .before .before .before .args .strings)) (c .before .before .before .before .before .before .before .before .before .before .before .before .has-nul .result) (now (c .before .before .before .before .before .before .before .before .before .before .before .before .before .before .before .before .before .args .name)) (c .before .before .before .before .before .before .before .before .before .before .before .string-size .result) _ _ (c .before .before .before .before .before .before .before .before .before .before .state .ensures) _ (c .before .before .before .before .before .before .offset .given .1) (c .before .before .before .before .before .before .before .before .property .ensures) in
     (p .dataSmall, p .stringsSmall)
 
 same-length : tie.Need-same-length
@@ -41,8 +41,8 @@ same-length c = search needs
 
 returns : tie.Need-returns
 returns c =
-    let value = closed (now (c .before .before .before .before .before .before .before .before .before .before .before .args .val)) in
-    property-refused (stateOf (c .before .before .before .before .before .before .before .before .before .before .before .args .self)) (now (c .before .before .before .before .before .before .before .before .before .before .before .args .«data»)) (now (c .before .before .before .before .before .before .before .before .before .before .before .args .strings)) (hasNul (now (c .before .before .before .before .before .before .before .before .before .before .before .args .val))) (now (c .before .before .before .before .before .before .before .before .before .before .before .args .name)) value (c .before .before .before .before .before .property-size .result) (size-of _ _ value (c .before .before .before .before .before .property-size .ensures) (length-closed (now (c .before .before .before .before .before .before .before .before .before .before .before .args .val)))) _ (rw (c .before .before .before .before .before .before .has-nul .ensures) at (c .before .before .before .property .ensures)) _ (c .before .e .given .1)
+    let value = closed (now (c .before .before .before .before .before .before .before .before .before .before .before .before .args .val)) in
+    property-refused (stateOf (c .before .before .before .before .before .before .before .before .before .before .before .before .args .self)) (now (c .before .before .before .before .before .before .before .before .before .before .before .before .args .«data»)) (now (c .before .before .before .before .before .before .before .before .before .before .before .before .args .strings)) (hasNul (now (c .before .before .before .before .before .before .before .before .before .before .before .before .args .val))) (now (c .before .before .before .before .before .before .before .before .before .before .before .before .args .name)) value (c .before .before .before .before .before .before .string-size .result) (size-of _ _ value (c .before .before .before .before .before .before .string-size .ensures) (length-closed (now (c .before .before .before .before .before .before .before .before .before .before .before .before .args .val)))) _ (c .before .before .before .before .before .state .ensures) _ (rw (c .before .before .before .before .before .before .before .has-nul .ensures) at (c .before .before .before .property .ensures)) _ (c .before .e .given .1)
 
 same-length-2 : tie.Need-same-length-2
 same-length-2 c = search needs
@@ -52,8 +52,8 @@ same-length-3 c = search needs
 
 returns-2 : tie.Need-returns-2
 returns-2 c =
-    let value = closed (now (c .before .before .before .before .before .before .before .before .before .before .before .before .before .before .before .before .before .before .before .args .val)) in
-    property-done (stateOf (c .before .before .before .before .before .before .before .before .before .before .before .before .before .before .before .before .before .before .before .args .self)) (now (c .before .before .before .before .before .before .before .before .before .before .before .before .before .before .before .before .before .before .before .args .«data»)) (now (c .before .before .before .before .before .before .before .before .before .before .before .before .before .before .before .before .before .before .before .args .strings)) (hasNul (now (c .before .before .before .before .before .before .before .before .before .before .before .before .before .before .before .before .before .before .before .args .val))) (now (c .before .before .before .before .before .before .before .before .before .before .before .before .before .before .before .before .before .before .before .args .name)) value (c .before .before .before .before .before .before .before .before .before .before .before .before .before .property-size .result) (size-of _ _ value (c .before .before .before .before .before .before .before .before .before .before .before .before .before .property-size .ensures) (length-closed (now (c .before .before .before .before .before .before .before .before .before .before .before .before .before .before .before .before .before .before .before .args .val)))) _ (rw (c .before .before .before .before .before .before .before .before .before .before .before .before .before .before .has-nul .ensures) at (c .before .before .before .before .before .before .before .before .before .before .before .property .ensures)) _ (c .before .before .before .before .before .before .before .before .before .offset .given .1) _ _ _ (c .before .before .before .before .before .before .property-string .ensures) (c .before .before .with-property .ensures .1) (c .before .before .with-property .ensures .0)
+    let value = closed (now (c .before .before .before .before .before .before .before .before .before .before .before .before .before .before .before .before .before .before .before .before .args .val)) in
+    property-done (stateOf (c .before .before .before .before .before .before .before .before .before .before .before .before .before .before .before .before .before .before .before .before .args .self)) (now (c .before .before .before .before .before .before .before .before .before .before .before .before .before .before .before .before .before .before .before .before .args .«data»)) (now (c .before .before .before .before .before .before .before .before .before .before .before .before .before .before .before .before .before .before .before .before .args .strings)) (hasNul (now (c .before .before .before .before .before .before .before .before .before .before .before .before .before .before .before .before .before .before .before .before .args .val))) (now (c .before .before .before .before .before .before .before .before .before .before .before .before .before .before .before .before .before .before .before .before .args .name)) value (c .before .before .before .before .before .before .before .before .before .before .before .before .before .before .string-size .result) (size-of _ _ value (c .before .before .before .before .before .before .before .before .before .before .before .before .before .before .string-size .ensures) (length-closed (now (c .before .before .before .before .before .before .before .before .before .before .before .before .before .before .before .before .before .before .before .before .args .val)))) _ (c .before .before .before .before .before .before .before .before .before .before .before .before .before .state .ensures) _ (rw (c .before .before .before .before .before .before .before .before .before .before .before .before .before .before .before .has-nul .ensures) at (c .before .before .before .before .before .before .before .before .before .before .before .property .ensures)) _ (c .before .before .before .before .before .before .before .before .before .offset .given .1) _ _ _ (c .before .before .before .before .before .before .property-string .ensures) (c .before .before .with-property .ensures .1) (c .before .before .with-property .ensures .0)
 
 pub property-string-spec : {M : Type 1} → statement M
-property-string-spec = tie.close (tie.spec has-nul-requires add-property-size property-size-requires property-requires enum-known-e enum-known-offset property-string-requires with-property-requires same-length returns same-length-2 same-length-3 returns-2)
+property-string-spec = tie.close (tie.spec has-nul-requires string-size-requires state-requires property-requires enum-known-e enum-known-offset property-string-requires with-property-requires same-length returns same-length-2 same-length-3 returns-2)

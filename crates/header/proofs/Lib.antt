@@ -1,0 +1,2 @@
+-- What the proofs of the header share.
+pub mod Heads

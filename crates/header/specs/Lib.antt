@@ -1,0 +1,2 @@
+-- How the answers of the header's judge are read.
+pub mod Header

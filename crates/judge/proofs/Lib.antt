@@ -1,0 +1,4 @@
+pub mod Possible
+pub mod Properties
+pub mod Phandles
+pub mod Starts
