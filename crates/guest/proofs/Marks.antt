@@ -7,20 +7,20 @@ use native.Mathlib.Omega.{arith}
 use lib.Dec.{eqb}
 use borrow.Author.Tests.{lt-ltb, le-ltb}
 use lib.ListN.{getD}
-use Rattle.rules.specs.Ceilings.{nodeCeiling, nodeWords}
-use Rattle.rules.specs.Space.{tableWords, marksAt}
+use Rattle.rules.specs.Ceilings.{nodeCeiling}
+use Rattle.rules.specs.Space.{marksAt}
 use Rattle.rules.specs.declared.Kind.{Kind}
 use Rattle.rules.specs.declared.Kind.the-variants.{Begin, EndNode}
 use Rattle.guest.specs.declared.walk.Walk.{Walk}
 use Rattle.guest.specs.Walked.{marked, copies, onwardOf}
 
-pub mark-here : (ws : List ℕ) (i w : ℕ) → i < 2048 → w ≡ getD ws (8192 + i) 0 → eqb w 1 ≡ marked ws i
-unfolding marked marksAt tableWords nodeCeiling nodeWords
-mark-here ws i w h e = rw (lt-ltb i 2048 h, e)
+pub mark-here : (ws : List ℕ) (i w : ℕ) → i < nodeCeiling → w ≡ getD ws (marksAt + i) 0 → eqb w 1 ≡ marked ws i
+unfolding marked
+mark-here ws i w h e = rw (lt-ltb i nodeCeiling h, e)
 
-pub mark-past : (ws : List ℕ) (i : ℕ) → 2048 ≤ i → false ≡ marked ws i
-unfolding marked nodeCeiling
-mark-past ws i h = rw (le-ltb i 2048 h)
+pub mark-past : (ws : List ℕ) (i : ℕ) → nodeCeiling ≤ i → false ≡ marked ws i
+unfolding marked
+mark-past ws i h = rw (le-ltb i nodeCeiling h)
 
 -- ---- the walk behind a token
 

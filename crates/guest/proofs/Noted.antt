@@ -91,7 +91,7 @@ table-lay strings ws at o zero x h = refl
 table-lay strings ws at o (suc n) x h =
     rw (lay-one-other ws at o 0 (stackAt + n) (λ e. omega arith), table-lay strings ws at o n x (omega arith))
 
-space : stackAt + tableRoom ≡ workWords
+pub space : stackAt + tableRoom ≡ workWords
 unfolding tableRoom stackAt listAt marksAt tableWords nodeCeiling nodeWords workWords
 space = omega arith
 
@@ -189,32 +189,24 @@ string-past strings o h = rw (drop-of-length-le strings {i = o} h, drop-of-lengt
 
 -- ---- the search in the table
 
-pub room-small : stackAt + tableRoom ≤ 16384
-unfolding tableRoom stackAt listAt marksAt tableWords nodeCeiling nodeWords workWords
-room-small = omega arith
-
-pub table-hit : (strings : Bytes) (ws : List ℕ) (n o : ℕ) (x : Bytes) → 0 < n → o ≡ getD ws (12288 + (n - 1)) 0 → same x (stringAt strings o) ≡ true
+pub table-hit : (strings : Bytes) (ws : List ℕ) (n o : ℕ) (x : Bytes) → 0 < n → o ≡ getD ws (stackAt + (n - 1)) 0 → same x (stringAt strings o) ≡ true
     → inTable strings ws n x ≡ true
-unfolding stackAt listAt marksAt tableWords nodeCeiling nodeWords
 table-hit strings ws n o x h e t =
     table-step strings ws n (n - 1) x (omega arith) ∙ or-left _ _ (ap (λ (m : ℕ). same x (stringAt strings m)) (sym e) ∙ t)
 
-pub table-miss : (strings : Bytes) (ws : List ℕ) (n o : ℕ) (x : Bytes) → 0 < n → o ≡ getD ws (12288 + (n - 1)) 0 → same x (stringAt strings o) ≡ false
+pub table-miss : (strings : Bytes) (ws : List ℕ) (n o : ℕ) (x : Bytes) → 0 < n → o ≡ getD ws (stackAt + (n - 1)) 0 → same x (stringAt strings o) ≡ false
     → inTable strings ws (n - 1) x ≡ inTable strings ws n x
-unfolding stackAt listAt marksAt tableWords nodeCeiling nodeWords
 table-miss strings ws n o x h e t =
-    let u : same x (stringAt strings (getD ws (12288 + (n - 1)) 0)) ≡ false = ap (λ (m : ℕ). same x (stringAt strings m)) (sym e) ∙ t in
+    let u : same x (stringAt strings (getD ws (stackAt + (n - 1)) 0)) ≡ false = ap (λ (m : ℕ). same x (stringAt strings m)) (sym e) ∙ t in
     sym (table-step strings ws n (n - 1) x (omega arith) ∙ rw u)
 
 -- ---- entering
 
-pub enter-room : (ws vs : List ℕ) (n o : ℕ) → n < 4096 → vs ≡ lay ws (12288 + n) (o ∷ []) → (n + 1 ≡ enterCount n) × (vs ≡ enterWords ws n o)
-unfolding tableRoom stackAt listAt marksAt tableWords nodeCeiling nodeWords workWords
-enter-room ws vs n o h e = (rw (lt-ltb n 4096 h), rw (lt-ltb n 4096 h) e)
+pub enter-room : (ws vs : List ℕ) (n o : ℕ) → n < tableRoom → vs ≡ lay ws (stackAt + n) (o ∷ []) → (n + 1 ≡ enterCount n) × (vs ≡ enterWords ws n o)
+enter-room ws vs n o h e = (rw (lt-ltb n tableRoom h), rw (lt-ltb n tableRoom h) e)
 
-pub enter-full : (ws : List ℕ) (n o : ℕ) → 4096 ≤ n → (n ≡ enterCount n) × (ws ≡ enterWords ws n o)
-unfolding tableRoom stackAt listAt marksAt tableWords nodeCeiling nodeWords workWords
-enter-full ws n o h = (rw (le-ltb n 4096 h), rw (le-ltb n 4096 h))
+pub enter-full : (ws : List ℕ) (n o : ℕ) → tableRoom ≤ n → (n ≡ enterCount n) × (ws ≡ enterWords ws n o)
+enter-full ws n o h = (rw (le-ltb n tableRoom h), rw (le-ltb n tableRoom h))
 
 -- ---- known or not
 
@@ -222,8 +214,7 @@ module _ (strings : Bytes) (ws : List ℕ) (n : ℕ) (done : List Bytes) (t : Ta
   pub known-table : (r : Bool) → r ≡ inTable strings ws n x → r ≡ true → true ≡ isIn x done
   known-table r e f = sym (t .met x (sym e ∙ f))
 
-  pub known-not : (r : Bool) → r ≡ inTable strings ws n x → r ≡ false → n < 4096 → false ≡ isIn x done
-  unfolding tableRoom stackAt listAt marksAt tableWords nodeCeiling nodeWords workWords
+  pub known-not : (r : Bool) → r ≡ inTable strings ws n x → r ≡ false → n < tableRoom → false ≡ isIn x done
   known-not r e f h = sym (not-passed (isIn x done) (λ g. never (inTable strings ws n x) (t .all h x g) (sym e ∙ f)))
 
 -- ---- the sums behind a name
