@@ -6,8 +6,7 @@ use rules::FDT_END_NODE;
 use rules::FDT_PROP;
 ghost use mathlib.Core.Path.{_≡_};
 ghost use mathlib.Core.List.{_++_};
-ghost use Prim.Native.Nat.{_%_, _≤_};
-ghost use lib.ListN.{length, drop};
+ghost use Prim.Native.Nat.{_%_};
 ghost use Rattle.rules.specs.Octets.{be32, words32, words64, zeros, closed, begins, lay};
 ghost use Rattle.rules.specs.Writer.{beginBytes, endBytes, propertyBytes, nameOffset};
 

@@ -17,8 +17,7 @@ use Rattle.rules.specs.Derivation.{Given, given, nodeAt, repeats, configuredFro
 use Rattle.rules.specs.Laws.Formed.{named-step, named-skip, named-mem}
 use Rattle.rules.specs.Laws.Given.{givenAt, given-all, Told, told-none, told-more}
 use Rattle.rules.specs.Laws.Program.{Laying, laying-none, laying-more, laying-bytes, laying-count}
-use Rattle.rules.specs.Laws.Tabled.{tree-length}
-use Rattle.paths.specs.Trees.{treeOf}
+use Rattle.rules.specs.Laws.Tabled.{tree-length, treeOf}
 use Rattle.references.specs.declared.table.Found.{Found}
 use Rattle.references.specs.Table.{found}
 use Rattle.given.specs.declared.Entry.{Entry}

@@ -13,7 +13,7 @@ ghost use Rattle.rules.specs.Octets.{Bytes, lay};
 ghost use Rattle.rules.specs.Lists.{oneOf};
 ghost use Rattle.rules.specs.Tree.{frame};
 ghost use Rattle.rules.specs.Derivation.{given, nodesNamed};
-ghost use Rattle.paths.specs.Trees.{treeOf};
+ghost use Rattle.rules.specs.Laws.Tabled.{treeOf};
 ghost use Rattle.asked.specs.Answers.{meaning};
 ghost use Rattle.asked.specs.Nodes.{configuredNodes, configuredOutcome};
 

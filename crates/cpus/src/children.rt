@@ -8,7 +8,7 @@ ghost use Rattle.rules.specs.Octets.{Bytes};
 ghost use Rattle.rules.specs.Lists.{oneOf};
 ghost use Rattle.rules.specs.Tree.{frame};
 ghost use Rattle.rules.specs.Copy.{isCpus, cpuChild, stranger};
-ghost use Rattle.paths.specs.Trees.{treeOf};
+ghost use Rattle.rules.specs.Laws.Tabled.{treeOf};
 
 // Whether node i is `/cpus`.
 pub fn is_cpus(structure: &[u8], place: usize, work: &[u32], count: usize, i: usize) -> bool

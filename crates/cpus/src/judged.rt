@@ -10,7 +10,7 @@ ghost use Rattle.rules.specs.Blob.{missing};
 ghost use Rattle.rules.specs.Tree.{node, frame, numbers};
 ghost use Rattle.rules.specs.Copy.{cpuChild, regOf, isId};
 ghost use Rattle.rules.specs.Derivation.{cpusFrom, met, idsFrom};
-ghost use Rattle.paths.specs.Trees.{treeOf};
+ghost use Rattle.rules.specs.Laws.Tabled.{treeOf};
 ghost use Rattle.cpus.specs.Answers.{refusedBy};
 
 // Whether CPUs and ids may be used, or the place of the first fault.

@@ -5,10 +5,10 @@ use rules::Kind;
 use rules::Token;
 ghost use mathlib.Core.Path.{_≡_};
 ghost use Prim.Native.Nat.{ℕ};
+ghost use Rattle.rules.specs.Blob.{blockOf};
 ghost use Rattle.rules.specs.Tree.{node};
 ghost use Rattle.rules.specs.Copy.{regOf};
 ghost use Rattle.rules.specs.Laws.Tabled.{treeIn, propsAt};
-ghost use Rattle.references.specs.Cells.{blockOf};
 ghost use Rattle.cpus.specs.Registers.{meaning, registerIn, regIn, onKind};
 
 // A number, or nothing where `reg` is missing or has neither 4 nor 8 bytes.

@@ -14,7 +14,7 @@ use Rattle.rules.specs.Octets.{Bytes, if_then_else_, put, lay}
 use Rattle.rules.specs.Outcome.{Outcome, gives, refuses, _then_}
 use Rattle.rules.specs.Blob.{Block}
 use Rattle.rules.specs.Events.{Event, eventsIn}
-use Rattle.rules.specs.Tree.{Tree, node, path, nodesOf}
+use Rattle.rules.specs.Tree.{Tree, path, nodesOf}
 use Rattle.rules.specs.References.{edition1}
 use Rattle.rules.specs.Listing.{_∈_, listed, pathsBytes}
 use Rattle.rules.specs.Copy.{copied, guestEvents, guestBytes}
@@ -31,7 +31,7 @@ use Rattle.rules.specs.Laws.Kept.{Only, tree-alike, only-drop, marks-behind, li
 use Rattle.rules.specs.Laws.Tabled.{treeIn, tree-length}
 use Rattle.order.specs.Starts.{Asked}
 use Rattle.guest.specs.declared.Size.{Size}
-use Rattle.guest.specs.Walked.{marked, sieved, blank, Ready, Kept}
+use Rattle.guest.specs.Walked.{marked, sieved, blank, Ready, Above}
 use Rattle.guest.specs.Marking.{marked-word, marks-ready, marks-sieve}
 use Rattle.guest.specs.Finished.{guest-length}
 use Rattle.spelled.specs.Lists as spelt
@@ -141,18 +141,15 @@ module _ (b : Block) (count : ℕ) (q : AskedFor) (ws : List ℕ) (a : Asked b w
   pub copy-first : blobOf [] 0 (sieved (b .place) (b .structure) (b .strings) vs) ≡ copyBytes t es q
   copy-first = copy-is vs refl (λ i h. refl)
 
-  module _ (us : List ℕ) (g : Kept vs us) where
+  module _ (us : List ℕ) (g : Above vs us) where
     pub rest-is : (length us ≡ length ws) × (drop workWords us ≡ drop workWords ws)
-    rest-is = (g .size ∙ m .size, only-drop workWords (omega arith) only ∙ m .rest)
-      where
-        only : Only stackAt workWords vs us
-        only = record { size = g .size; before = g .front; behind = g .behind }
+    rest-is = (g .size ∙ m .size, only-drop workWords (omega arith) g ∙ m .rest)
 
     module _ (size : Size)
         (sized : (size .structure ≡ length (writeEvents blank (sieved (b .place) (b .structure) (b .strings) vs) .structure)) × (size .strings ≡ length (writeEvents blank (sieved (b .place) (b .structure) (b .strings) vs) .strings)))
         (L G : ℕ) (l : L ≡ length (spelt.listBytes (treeIn b us count) us n)) (h : G ≡ 56 + size .structure + 4 + size .strings) (list guest : Bytes) where
       length-list : L ≡ length (listBytes t q)
-      length-list = l ∙ ap length (bytes-are us (g .size) (g .front))
+      length-list = l ∙ ap length (bytes-are us (g .size) (g .before))
 
       length-copy : G ≡ length (copyBytes t es q)
       length-copy =
@@ -192,8 +189,8 @@ module _ (b : Block) (count : ℕ) (q : AskedFor) (ws : List ℕ) (a : Asked b w
             let d : gives (record { paths = n; listLength = L; guestLength = G }) ≡ roomy t es q (length list) (length guest) = both-fit L G (length list) (length guest) j room e k _ ∙ measured (length list) (length guest) in
             record {
               answer = f ∙ d;
-              listed = p ∙ ap (lay list 0) (bytes-are us (g .size) (g .front)) ∙ lay-put list 0 (listBytes t q) (omega (arith, length-list)) ∙ rw (← d);
-              copied = o ∙ ap (put guest 0) (copy-is us (g .size) (g .front)) ∙ rw (← d);
+              listed = p ∙ ap (lay list 0) (bytes-are us (g .size) (g .before)) ∙ lay-put list 0 (listBytes t q) (omega (arith, length-list)) ∙ rw (← d);
+              copied = o ∙ ap (put guest 0) (copy-is us (g .size) (g .before)) ∙ rw (← d);
               size = rest-is .0;
               rest = rest-is .1;
             }

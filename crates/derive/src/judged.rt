@@ -9,7 +9,7 @@ ghost use lib.ListN.{length};
 ghost use Rattle.rules.specs.Ceilings.{nodeCeiling, entryCeiling};
 ghost use Rattle.rules.specs.Outcome.{_then_, gives};
 ghost use Rattle.rules.specs.Derivation.{cpusJudged, idsFrom};
-ghost use Rattle.paths.specs.Trees.{treeOf};
+ghost use Rattle.rules.specs.Laws.Tabled.{treeOf};
 ghost use Rattle.derive.specs.Answers.{checked};
 ghost use Rattle.derive.specs.Answered.{Checks};
 

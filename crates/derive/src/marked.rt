@@ -1,7 +1,7 @@
 // The nodes listed and the nodes copied, as numbers and marks in the work space.
 use listing::listed;
 use picks::picks;
-ghost use Rattle.references.specs.Cells.{blockOf};
+ghost use Rattle.rules.specs.Blob.{blockOf};
 ghost use Rattle.order.specs.Starts.{Asked};
 ghost use Rattle.derive.specs.Marked.{Marks};
 

@@ -11,7 +11,7 @@ ghost use Prim.Native.Nat.{min, _+_, _≤_};
 ghost use lib.Dec.{leb};
 ghost use lib.ListN.{length, take};
 ghost use Rattle.rules.specs.Ceilings.{blobCeiling};
-ghost use Rattle.references.specs.Cells.{blockOf};
+ghost use Rattle.rules.specs.Blob.{blockOf};
 ghost use Rattle.order.specs.Starts.{Asked};
 ghost use Rattle.guest.specs.Measured.{Sized};
 ghost use Rattle.derive.specs.Written.{Whole, Copies, Writes};

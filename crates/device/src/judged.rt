@@ -5,7 +5,7 @@ ghost use Prim.Native.Nat.{_≤_};
 ghost use lib.ListN.{length};
 ghost use Rattle.rules.specs.Ceilings.{nodeCeiling, entryCeiling};
 ghost use Rattle.rules.specs.Octets.{Bytes};
-ghost use Rattle.paths.specs.Trees.{treeOf};
+ghost use Rattle.rules.specs.Laws.Tabled.{treeOf};
 ghost use Rattle.device.specs.Answered.{Checks};
 
 // How many nodes are configured, or why the lists are refused.

@@ -6,7 +6,7 @@ use spelled::list_len;
 use spelled::list_out;
 ghost use Prim.Native.Nat.{_≤_};
 ghost use lib.ListN.{length, take};
-ghost use Rattle.references.specs.Cells.{blockOf};
+ghost use Rattle.rules.specs.Blob.{blockOf};
 ghost use Rattle.order.specs.Starts.{Asked};
 ghost use Rattle.device.specs.Written.{Writes};
 

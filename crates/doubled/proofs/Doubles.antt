@@ -12,6 +12,7 @@ use denote.Enum.Declared.{tagOf}
 use Rattle.rules.proofs.Token as tokened
 use Rattle.rules.specs.Octets.{Bytes, same, part, wordAt}
 use Rattle.rules.specs.Outcome.{Verdict, gives, refuses, passes, _then_}
+use Rattle.rules.specs.Blob.{blockOf}
 use Rattle.rules.specs.Tokens.{tokenAt}
 use Rattle.rules.specs.Events.{Property, stringAt, saying}
 use Rattle.rules.specs.Tree.{propsOf, named, doubledProps}
@@ -22,7 +23,7 @@ use Rattle.rules.specs.declared.Kind.the-variants.{Begin, EndNode, Prop, Nop}
 use Rattle.rules.specs.Laws.Tests.{by-test, or-nothing, or-right, or-assoc}
 use Rattle.rules.specs.Laws.Tokens.{prop-says}
 use Rattle.rules.specs.Laws.Events.{eventsAt}
-use Rattle.doubled.specs.Passes.{blockOf, propsAt}
+use Rattle.doubled.specs.Passes.{propsAt}
 use Rattle.doubled.specs.Props.{Next, Stands, firstHit, upToHit, Met, Unmet, MeetsBy}
 use Rattle.doubled.specs.declared.props.Property as read
 use Rattle.doubled.specs.declared.props.Property.the-variants.{Here, Missing}
@@ -44,13 +45,13 @@ name-offset s at r kind next len name value e f g =
 module _ (s strings : Bytes) (at : ℕ) (i : at ≤ length s) (r : Token) (e : r ≡ tokenAt s at) (p : ℕ) where
   pub props-stop : OneOf (1 ∷ 2 ∷ []) (tagOf tokened.the-type r) → propsAt s strings p at ≡ []
   unfolding propsOf
-  props-stop h = ap propsOf (events-stop (blockOf s strings p) at i r e h)
+  props-stop h = ap propsOf (events-stop (blockOf p s strings) at i r e h)
 
   module _ (kind : Kind) (next : ℕ) (f : r ≡ Item kind next) where
-    said : (k : Kind) → kind ≡ k → propsAt s strings p at ≡ propsOf (saying (blockOf s strings p) at (Item k next) (eventsAt (blockOf s strings p) next))
+    said : (k : Kind) → kind ≡ k → propsAt s strings p at ≡ propsOf (saying (blockOf p s strings) at (Item k next) (eventsAt (blockOf p s strings) next))
     said k g =
-        ap propsOf (events-item (blockOf s strings p) at i r e kind next f)
-        ∙ ap (λ (l : Kind). propsOf (saying (blockOf s strings p) at (Item l next) (eventsAt (blockOf s strings p) next))) g
+        ap propsOf (events-item (blockOf p s strings) at i r e kind next f)
+        ∙ ap (λ (l : Kind). propsOf (saying (blockOf p s strings) at (Item l next) (eventsAt (blockOf p s strings) next))) g
 
     pub props-nop : kind ≡ Nop → propsAt s strings p at ≡ propsAt s strings p next
     props-nop g = said Nop g
@@ -236,9 +237,6 @@ meets-none f s strings from left r e h = subst (MeetsBy f s strings from left) e
 -- all of them, and nothing found
 pub left-all : (ps : List Property) (left : ℕ) → left ≡ length ps → (doubledProps [] (take left ps) then passes) ≡ doubledProps [] ps
 left-all ps left e = then-passes _ ∙ ap (doubledProps []) (take-all left ps (omega arith))
-
-pub left-none : (left : ℕ) (ps : List Property) (v : Verdict) → ps ≡ [] → (doubledProps [] (take left ps) then v) ≡ v
-left-none left ps v e = ap (λ (w : Verdict). w then v) (ap (doubledProps []) (ap (take left) e ∙ take-nil left) ∙ props-none [])
 
 pub left-zero : (left : ℕ) (ps : List Property) (v : Verdict) → left ≡ 0 → (doubledProps [] (take left ps) then v) ≡ v
 left-zero left ps v e = ap (λ (w : Verdict). w then v) (ap (doubledProps []) (ap (λ (n : ℕ). take n ps) e) ∙ props-none [])

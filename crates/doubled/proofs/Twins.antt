@@ -15,7 +15,7 @@ use Rattle.rules.proofs.Token as tokened
 use Rattle.rules.specs.Ceilings.{nodeWords, nodeCeiling, workWords}
 use Rattle.rules.specs.Octets.{Bytes, byteAt, nulIn, same, begins}
 use Rattle.rules.specs.Outcome.{Verdict, gives, refuses, passes, _then_, first}
-use Rattle.rules.specs.Blob.{Block}
+use Rattle.rules.specs.Blob.{Block, blockOf}
 use Rattle.rules.specs.Tokens.{tokenAt}
 use Rattle.rules.specs.Events.{Event, saying, nodeNameAt}
 use Rattle.rules.specs.Tree.{Node, Tree, node, propsOf, top, rest, nodesFrom, nodesOf, sibling, doubledProps, doubledFrom, doubledJudged}
@@ -27,7 +27,7 @@ use Rattle.rules.specs.Laws.Tests.{by-test, by-le, both-ways, and-true, true-an
 use Rattle.rules.specs.Laws.Octets.{nul-le, nul-byte, nul-before, begins-split, begins-append, same-eq, eq-same}
 use Rattle.rules.specs.Laws.Tokens.{begin-says}
 use Rattle.rules.specs.Laws.Events.{eventsAt}
-use Rattle.doubled.specs.Passes.{blockOf, nodesIn, hasRow, verdict}
+use Rattle.doubled.specs.Passes.{nodesIn, hasRow, verdict}
 use Rattle.doubled.specs.declared.Found.{Found}
 use Rattle.doubled.specs.declared.Found.the-variants.{Nothing, At}
 use Rattle.doubled.specs.Sorted.{chunkStart}
@@ -133,14 +133,14 @@ pub record Come (s strings : Bytes) (place : ℕ) (w : List ℕ) (at count : ℕ
   pub stack : List ℕ
   pub seen : List Node
   pub behind : Before count stack
-  pub rest : doubledFrom seen (nodesFrom stack count (eventsAt (blockOf s strings place) at)) ≡ doubledJudged (nodesIn s strings place)
-  pub ahead : nodesFrom stack count (eventsAt (blockOf s strings place) at) ≡ drop count (nodesIn s strings place)
+  pub rest : doubledFrom seen (nodesFrom stack count (eventsAt (blockOf place s strings) at)) ≡ doubledJudged (nodesIn s strings place)
+  pub ahead : nodesFrom stack count (eventsAt (blockOf place s strings) at) ≡ drop count (nodesIn s strings place)
   pub below : (n : Node) → NoNul (n .name) → sibling n seen ≡ siblingBelow s place w count (n .parent) (n .name)
 
 pub come-start : (s strings : Bytes) (place : ℕ) (w : List ℕ) → Come s strings place w 0 0
 unfolding doubledJudged nodesOf sibling siblingBelow
 come-start s strings place w =
-    let b = blockOf s strings place in
+    let b = blockOf place s strings in
     record {
       stack = [];
       seen = [];
@@ -176,7 +176,7 @@ from-step seen n ns v e = assoc (first (record { fails = sibling n seen; number 
 
 module _ (s strings : Bytes) (place : ℕ) (w : List ℕ) (at count : ℕ) (i : at ≤ length s) (r : Token) (e : r ≡ tokenAt s at) (c : Come s strings place w at count) where
   abbrev b : Block
-  b = blockOf s strings place
+  b = blockOf place s strings
 
   abbrev t : Tree
   t = nodesIn s strings place

@@ -7,19 +7,15 @@ use lib.ListN.{length}
 use Rattle.rules.specs.Ceilings.{nodeWords}
 use Rattle.rules.specs.Octets.{Bytes}
 use Rattle.rules.specs.Outcome.{Verdict, refuses, passes}
-use Rattle.rules.specs.Blob.{Block}
+use Rattle.rules.specs.Blob.{Block, blockOf}
 use Rattle.rules.specs.Events.{Property, eventsIn}
 use Rattle.rules.specs.Laws.Events.{eventsAt}
 use Rattle.rules.specs.Tree.{Tree, propsOf, nodesOf}
 use Rattle.doubled.specs.declared.Found.{Found}
 use Rattle.doubled.specs.declared.Found.the-variants.{Nothing, At}
 
--- a structure and its strings, and where the structure stands in the blob
-abbrev pub blockOf : (s strings : Bytes) (place : ℕ) → Block
-blockOf s strings place = record { place = place; structure = s; strings = strings }
-
 abbrev pub nodesIn : (s strings : Bytes) (place : ℕ) → Tree
-nodesIn s strings place = nodesOf (eventsIn (blockOf s strings place))
+nodesIn s strings place = nodesOf (eventsIn (blockOf place s strings))
 
 -- node i has a row in w
 abbrev pub hasRow : List ℕ → ℕ → Bool
@@ -37,4 +33,4 @@ Inside s (At at) = at + 4 ≤ length s
 
 -- the properties that stand at a place of the structure
 abbrev pub propsAt : (s strings : Bytes) (place at : ℕ) → List Property
-propsAt s strings place at = propsOf (eventsAt (blockOf s strings place) at)
+propsAt s strings place at = propsOf (eventsAt (blockOf place s strings) at)

@@ -6,7 +6,7 @@ use Prim.Native.Nat.{ℕ, _+_, _-_, _≤_, _<_}
 use lib.ListN.{length, take, getD}
 use Rattle.rules.specs.Ceilings.{workWords}
 use Rattle.rules.specs.Octets.{Bytes}
-use Rattle.rules.specs.Outcome.{Verdict, refuses, passes, _then_, Test, first}
+use Rattle.rules.specs.Outcome.{Verdict, refuses, passes, _then_, first}
 use Rattle.rules.specs.Events.{Property, stringAt}
 use Rattle.rules.specs.Tree.{named, doubledProps}
 use Rattle.doubled.specs.Passes.{propsAt}

@@ -3,19 +3,20 @@ use mathlib.Core.Path.{_≡_}
 use mathlib.Core.Logic.{_⊎_}
 use mathlib.Core.Bool.{Bool, true, false, _||_}
 use mathlib.Core.List.{List}
-use Prim.Native.Nat.{ℕ, zero, suc, _+_, _≤_, _<_, min}
+use Prim.Native.Nat.{ℕ, zero, suc, _+_, _-_, _≤_, _<_, min}
 use lib.ListN.{getD}
 use Rattle.rules.specs.Octets.{Bytes, before, same}
 use Rattle.rules.specs.Events.{stringAt}
+use Rattle.rules.specs.Laws.Constants.{WORK-WORDS, MARKS-AT}
 use Rattle.doubled.specs.declared.sorted.Spot.{Spot}
 use Rattle.doubled.specs.declared.sorted.Spot.the-variants.{Taken, Free}
 
--- the first word behind 2,048 rows of four, and how many there are up to the 16,384th
+-- the first word behind the node table, and how many there are up to the end of the work space
 abbrev pub chunkStart : ℕ
-chunkStart = 8192
+chunkStart = MARKS-AT
 
 abbrev pub chunkRoom : ℕ
-chunkRoom = 8192
+chunkRoom = WORK-WORDS - MARKS-AT
 
 -- the name at an index of the chunk
 abbrev pub keyAt : (strings : Bytes) → List ℕ → ℕ → Bytes

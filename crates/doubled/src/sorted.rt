@@ -4,10 +4,10 @@ use rules::NODE_CEILING;
 use rules::NODE_WORDS;
 use rules::WORK_WORDS;
 ghost use mathlib.Core.Path.{_≡_};
-ghost use Prim.Native.Nat.{ℕ, _+_, _≤_, _<_};
+ghost use Prim.Native.Nat.{_+_, _≤_, _<_};
 ghost use lib.ListN.{length};
 ghost use Rattle.rules.specs.Octets.{before, same};
-ghost use Rattle.doubled.specs.Sorted.{chunkStart, chunkRoom, keyAt, taken, Ordered, Between, Finds, Inserted, Wiped};
+ghost use Rattle.doubled.specs.Sorted.{chunkStart, keyAt, taken, Ordered, Between, Finds, Inserted, Wiped};
 
 // Where the chunk begins, and how many names it holds at most.
 const CHUNK_START: usize = NODE_WORDS * NODE_CEILING;

@@ -11,7 +11,7 @@ use Rattle.rules.specs.Laws.Octets.{length-part, part-part, length-lay, length-
 use Rattle.rules.specs.Laws.Writer.{be32-low}
 use Rattle.rules.specs.Laws.Header.{length-header}
 use Rattle.guest.specs.declared.Size.{Size}
-use Rattle.guest.specs.Walked.{blank, copyOf, sieved, Ready, Kept}
+use Rattle.guest.specs.Walked.{blank, copyOf, sieved, Ready, Above}
 use Rattle.guest.specs.Measured.{Sized}
 use Rattle.guest.specs.Laid.{blocksIn, sizeOf, Lays}
 use Rattle.guest.specs.Finished.{headOf, blob-is, blob-length}
@@ -21,11 +21,11 @@ use Rattle.guest.proofs.Regions.{part-before, part-behind, part-same, d
 
 -- ---- the sizes of the sieve's copy
 
-copy-kept : (s t : Bytes) (ws vs : List ℕ) → Kept ws vs → copyOf s t vs ≡ copyOf s t ws
+copy-kept : (s t : Bytes) (ws vs : List ℕ) → Above ws vs → copyOf s t vs ≡ copyOf s t ws
 unfolding copyOf
 copy-kept s t ws vs k = rw (kept-marked ws vs k)
 
-pub sized-sieved : (place : ℕ) (s t : Bytes) (ws vs : List ℕ) (r : Size) → Kept ws vs → Sized s t vs r → Ready place s t ws
+pub sized-sieved : (place : ℕ) (s t : Bytes) (ws vs : List ℕ) (r : Size) → Above ws vs → Sized s t vs r → Ready place s t ws
     → (r .structure ≡ length (writeEvents blank (sieved place s t ws) .structure)) × (r .strings ≡ length (writeEvents blank (sieved place s t ws) .strings))
 sized-sieved place s t ws vs r k z y =
     let e : copyOf s t vs ≡ writeEvents blank (sieved place s t ws) = copy-kept s t ws vs k ∙ copy-sieved place s t ws y in

@@ -11,7 +11,7 @@ use denote.Enum.Declared.{tagOf}
 use Rattle.rules.proofs.Token as tokened
 use Rattle.rules.specs.Ceilings.{blobCeiling, workWords}
 use Rattle.rules.specs.Octets.{Bytes, if_then_else_}
-use Rattle.rules.specs.Blob.{Block}
+use Rattle.rules.specs.Blob.{Block, blockOf}
 use Rattle.rules.specs.Tokens.{tokenAt}
 use Rattle.rules.specs.Events.{Event, eventsIn}
 use Rattle.rules.specs.declared.Token.{Token}
@@ -20,14 +20,15 @@ use Rattle.rules.specs.declared.Kind.{Kind}
 use Rattle.rules.specs.Laws.Tests.{by-test}
 use Rattle.rules.specs.Laws.Tokens.{item-ahead}
 use Rattle.rules.specs.Laws.Events.{events-all}
+use Rattle.rules.specs.Laws.Kept.{only-none, only-then}
 use Rattle.guest.specs.declared.walk.Walk.{Walk}
 use Rattle.guest.specs.declared.walk.Named.{Named}
 use Rattle.guest.specs.declared.walk.Named.the-variants.{At, Nothing}
 use Rattle.guest.specs.declared.measured.Sum.{Sum}
-use Rattle.guest.specs.Walked.{blockOf, marked, copies, onwardOf, sift, Kept, Near}
+use Rattle.guest.specs.Walked.{marked, copies, onwardOf, sift, Above, Near}
 use Rattle.guest.specs.Measured.{isIn, namesIn, propOf, nameAt, inTable, Tabled, growthOf, structureSize, Low, Entered, Sized}
 use Rattle.guest.proofs.Sifts.{sizeAt, size-item, size-stop, names-all, names-item, names-stop}
-use Rattle.guest.proofs.Noted.{kept-same, kept-trans, kept-marked, growth-one}
+use Rattle.guest.proofs.Noted.{kept-marked, growth-one}
 use Rattle.guest.proofs.Turns.{Behind, walk-behind, namesFrom}
 use Rattle.guest.proofs.Grown.{copy-structure, copy-strings}
 
@@ -140,7 +141,7 @@ module _ (b : Block) (k : ℕ → Bool) (all : List Bytes) (at : ℕ) (w : Walk)
 
 -- ---- the work space changes, and its marks do not
 
-pub names-kept : (s t : Bytes) (ws vs : List ℕ) → Kept ws vs → namesIn s t vs ≡ namesIn s t ws
+pub names-kept : (s t : Bytes) (ws vs : List ℕ) → Above ws vs → namesIn s t vs ≡ namesIn s t ws
 unfolding namesIn
 names-kept s t ws vs k = rw (kept-marked ws vs k)
 
@@ -152,13 +153,13 @@ size-all s t ws = ap (λ (es : List Event). structureSize (sift (marked ws) 0 0 
 pub record Measures (s t : Bytes) (ws₀ ws : List ℕ) (at : ℕ) (w : Walk) (sum : Sum) : Type 0 where
   pub inside : at ≤ length s
   pub behind : Behind w at
-  pub kept : Kept ws₀ ws
+  pub kept : Above ws₀ ws
   pub counted : Counted (blockOf 0 s t) (marked ws) (namesIn s t ws) at w sum
   pub tabled : Tabled t ws (sum .names) (take (sum .props) (namesIn s t ws))
 
 pub measures-start : (s t : Bytes) (ws : List ℕ) → workWords ≤ length ws → Measures s t ws ws 0 walk-start sum-start
 measures-start s t ws h =
-    record { inside = omega arith; behind = (omega arith, omega arith); kept = kept-same ws; counted = counted-start s t ws; tabled = tabled-start t ws (namesIn s t ws) h }
+    record { inside = omega arith; behind = (omega arith, omega arith); kept = only-none ws; counted = counted-start s t ws; tabled = tabled-start t ws (namesIn s t ws) h }
 
 module _ (s t : Bytes) (ws₀ ws : List ℕ) (at : ℕ) (w : Walk) (sum : Sum) (m : Measures s t ws₀ ws at w sum)
     (short : length s ≤ blobCeiling) (brief : length t ≤ blobCeiling) (r : Token) (e : r ≡ tokenAt s at) where
@@ -188,7 +189,7 @@ module _ (s t : Bytes) (ws₀ ws : List ℕ) (at : ℕ) (w : Walk) (sum : Sum) (
         record {
           inside = a .1;
           behind = walk-behind (marked vs) w u kind at next o (m .behind) (a .0);
-          kept = kept-trans ws₀ ws vs (m .kept) (d .kept);
+          kept = only-then (m .kept) (d .kept);
           counted = rw (k, n, q) (counted-on (blockOf 0 s t) (marked ws) (namesIn s t ws) at w sum (m .counted) (m .inside) r e kind next f ws vs v g d brief);
           tabled = rw n (tabled-on (blockOf 0 s t) (marked ws) (namesIn s t ws) at w sum (m .counted) (m .inside) r e kind next f ws vs v g d);
         }

@@ -10,7 +10,7 @@ use denote.Enum.Declared.{tagOf}
 use Rattle.rules.proofs.Token as tokened
 use Rattle.rules.specs.Ceilings.{blobCeiling}
 use Rattle.rules.specs.Octets.{Bytes, part, lay}
-use Rattle.rules.specs.Blob.{Block}
+use Rattle.rules.specs.Blob.{Block, blockOf}
 use Rattle.rules.specs.Tokens.{tokenAt}
 use Rattle.rules.specs.Events.{Event, opens, has, closes, nodeNameAt, stringAt}
 use Rattle.rules.specs.Writer.{beginBytes, endBytes, nameGrowth}
@@ -25,7 +25,7 @@ use Rattle.rules.specs.Laws.Events.{events-all}
 use Rattle.rules.specs.Laws.Writer.{length-begin, length-end}
 use Rattle.guest.specs.declared.walk.Walk.{Walk}
 use Rattle.guest.specs.declared.Size.{Size}
-use Rattle.guest.specs.Walked.{blockOf, marked, copies, onwardOf, heard, sift, blank, copyOf, Near}
+use Rattle.guest.specs.Walked.{marked, copies, onwardOf, heard, sift, blank, copyOf, Near}
 use Rattle.guest.specs.Laid.{blocksIn, sizeOf, wrote, withProperty, Fits, Begun, Lays}
 use Rattle.guest.proofs.Sifts.{restAt, rest-item, rest-stop}
 use Rattle.guest.proofs.Turns.{Behind, walk-behind}

@@ -10,7 +10,7 @@ use lib.ListN.{length, take, drop, length-append}
 use lib.Seq.{drop-at, take-nil}
 use borrow.Author.Tests.{ne-eqb, eqb-true, eqb-false, lt-ltb, le-ltb}
 use Rattle.rules.specs.Octets.{Bytes, if_then_else_, nulIn, closed, same, begins}
-use Rattle.rules.specs.Blob.{Block}
+use Rattle.rules.specs.Blob.{Block, blockOf}
 use Rattle.rules.specs.Tokens.{Placed}
 use Rattle.rules.specs.Events.{Event, opens, has, closes, stringAt, saying, eventsOf, eventsIn}
 use Rattle.rules.specs.Writer.{beginBytes, endBytes, propertyBytes, nameFrom, nameOffset, nameGrowth}
@@ -24,7 +24,7 @@ use Rattle.rules.specs.Laws.Tests.{by-test, or-nothing}
 use Rattle.rules.specs.Laws.Octets.{same-eq, nul-first, nul-cons}
 use Rattle.rules.specs.Laws.Writer.{length-property, name-here, name-past}
 use Rattle.rules.specs.Laws.Encoded.{nul-name}
-use Rattle.guest.specs.Walked.{blockOf, marked, sift, blank, copyOf}
+use Rattle.guest.specs.Walked.{marked, sift, blank, copyOf}
 use Rattle.guest.specs.Measured.{isIn, namesOf, namesIn, growthOf, structureSize}
 use Rattle.guest.proofs.Noted.{in-append, in-snoc}
 

@@ -18,11 +18,11 @@ use Rattle.rules.specs.declared.Kind.{Kind}
 use Rattle.rules.specs.declared.Kind.the-variants.{Begin, EndNode, Prop, Nop}
 use Rattle.rules.specs.Laws.Tests.{by-test, never, or-cases, or-left, or-right, not-passed, or-nothing}
 use Rattle.rules.specs.Laws.Octets.{same-eq, same-refl, nul-le, length-lay, lay-one-same, lay-one-other}
-use Rattle.rules.specs.Laws.Kept.{list-behind, stack-behind}
+use Rattle.rules.specs.Laws.Kept.{list-behind, stack-behind, only-none, only-one}
 use Rattle.guest.specs.declared.walk.Named.{Named}
 use Rattle.guest.specs.declared.walk.Named.the-variants.{At, Nothing}
 use Rattle.guest.specs.declared.measured.Sum.{Sum}
-use Rattle.guest.specs.Walked.{marked, copies, Kept}
+use Rattle.guest.specs.Walked.{marked, copies, Above}
 use Rattle.guest.specs.Measured.{isIn, propOf, nameAt, isNamed, lessOne, inTable, tableRoom, Tabled, growthOf, enterCount, enterWords, Entered}
 
 -- ---- one of names
@@ -42,9 +42,6 @@ in-snoc x a y = in-append x a (y ∷ []) ∙ ap (λ (t : Bool). isIn x a || t) (
 -- what is there stays there
 in-more : (x : Bytes) (a : List Bytes) (y : Bytes) → isIn x a ≡ true → isIn x (a ++ y ∷ []) ≡ true
 in-more x a y h = in-snoc x a y ∙ or-left (isIn x a) (same x y) h
-
-in-last : (x : Bytes) (a : List Bytes) → isIn x (a ++ x ∷ []) ≡ true
-in-last x a = in-snoc x a x ∙ or-right (isIn x a) (same x x) (same-refl x)
 
 -- ---- the search over the tokens before
 
@@ -144,29 +141,19 @@ module _ (strings : Bytes) (ws : List ℕ) (n : ℕ) (done : List Bytes) (t : Ta
 
 -- ---- what is kept
 
-pub kept-same : (ws : List ℕ) → Kept ws ws
-kept-same ws = record { size = refl; front = λ i h. refl; behind = λ i h. refl }
-
-pub kept-trans : (us vs ws : List ℕ) → Kept us vs → Kept vs ws → Kept us ws
-kept-trans us vs ws a b = record { size = b .size ∙ a .size; front = λ i h. b .front i h ∙ a .front i h; behind = λ i h. b .behind i h ∙ a .behind i h }
-
-pub kept-enter : (ws : List ℕ) (n o : ℕ) → Kept ws (enterWords ws n o)
+pub kept-enter : (ws : List ℕ) (n o : ℕ) → Above ws (enterWords ws n o)
 kept-enter ws n o = by-test (ltb n tableRoom)
-    (λ e. rw e (record {
-      size = length-lay ws (stackAt + n) (o ∷ []);
-      front = λ i h. lay-one-other ws (stackAt + n) o 0 i (λ q. omega arith);
-      behind = λ i h. lay-one-other ws (stackAt + n) o 0 i (λ q. omega (arith, space, ltb-true n tableRoom e));
-    }))
-    (λ e. rw e (kept-same ws))
+    (λ e. rw e (only-one ws (stackAt + n) o (omega arith) (omega (arith, space, ltb-true n tableRoom e))))
+    (λ e. rw e (only-none ws))
 
 -- the marks stand in front of the stack
-mark-kept : (ws vs : List ℕ) → Kept ws vs → (i : ℕ) → marked vs i ≡ marked ws i
+mark-kept : (ws vs : List ℕ) → Above ws vs → (i : ℕ) → marked vs i ≡ marked ws i
 unfolding marked
 mark-kept ws vs k i = by-test (ltb i nodeCeiling)
-    (λ e. rw (e, k .front (marksAt + i) (omega (arith, ltb-true i nodeCeiling e, list-behind, stack-behind))))
+    (λ e. rw (e, k .before (marksAt + i) (omega (arith, ltb-true i nodeCeiling e, list-behind, stack-behind))))
     (λ e. rw e)
 
-pub kept-marked : (ws vs : List ℕ) → Kept ws vs → marked vs ≡ marked ws
+pub kept-marked : (ws vs : List ℕ) → Above ws vs → marked vs ≡ marked ws
 kept-marked ws vs k = λ i j. mark-kept ws vs k j i
 
 -- ---- what a name adds
@@ -222,7 +209,7 @@ module _ (strings : Bytes) (ws : List ℕ) (n : ℕ) (done : List Bytes) (t : Ta
 module _ (t : Bytes) (ws : List ℕ) (done : List Bytes) (sum : Sum) (tb : Tabled t ws (sum .names) done) where
   pub entered-none : Entered t ws ws done sum sum Nothing
   unfolding growthOf
-  entered-none = record { strings = omega arith; props = omega arith; tabled = rw append-nil tb; kept = kept-same ws }
+  entered-none = record { strings = omega arith; props = omega arith; tabled = rw append-nil tb; kept = only-none ws }
 
   pub entered-known : (offset : ℕ) → isIn (stringAt t offset) done ≡ true
       → Entered t ws ws done sum (record { structure = sum .structure; strings = sum .strings; props = sum .props + 1; names = sum .names }) (At offset)
@@ -230,7 +217,7 @@ module _ (t : Bytes) (ws : List ℕ) (done : List Bytes) (sum : Sum) (tb : Table
     strings = omega (arith, growth-known (stringAt t offset) done h);
     props = refl;
     tabled = tabled-known t ws (sum .names) done tb (stringAt t offset) h;
-    kept = kept-same ws;
+    kept = only-none ws;
   }
 
   pub entered-new : (offset : ℕ) → isIn (stringAt t offset) done ≡ false → (len : ℕ) → len ≡ nulIn (drop offset t)

@@ -8,7 +8,7 @@ use native.Mathlib.Numerals.{add-one}
 use native.Mathlib.Nat.{add-zero}
 use borrow.Author.Tests.{ne-eqb}
 use Rattle.rules.specs.Octets.{Bytes}
-use Rattle.rules.specs.Blob.{Block}
+use Rattle.rules.specs.Blob.{Block, blockOf}
 use Rattle.rules.specs.Tokens.{Placed, tokens}
 use Rattle.rules.specs.Events.{Event, opens, saying, eventsOf, eventsIn}
 use Rattle.rules.specs.Tree.{Node, Tree, nodesFrom, nodesOf}
@@ -21,7 +21,7 @@ use Rattle.rules.specs.declared.Kind.the-variants.{Begin, EndNode, Prop, Nop}
 use Rattle.rules.specs.Laws.Tests.{by-test, never}
 use Rattle.rules.specs.Laws.Nested.{Nested, finished, root, child, holds, shuts, events-pass, events-nested}
 use Rattle.rules.specs.Laws.Sieve.{Upward}
-use Rattle.guest.specs.Walked.{blockOf, marked, copies, nextOf, skippedOf, heard, sift, blank, copyOf, sieved, Ready}
+use Rattle.guest.specs.Walked.{marked, copies, nextOf, skippedOf, heard, sift, blank, copyOf, sieved, Ready}
 use Rattle.guest.specs.Laid.{wrote}
 use Rattle.guest.proofs.Sifts.{sift-said}
 

@@ -11,7 +11,7 @@ use denote.Enum.Declared.{tagOf}
 use borrow.Author.Tests.{leb-true}
 use Rattle.rules.proofs.Token as tokened
 use Rattle.rules.specs.Octets.{Bytes, if_then_else_, part, wordAt, nulIn, padded}
-use Rattle.rules.specs.Blob.{Block}
+use Rattle.rules.specs.Blob.{Block, blockOf}
 use Rattle.rules.specs.Tokens.{beginAt, propAt, tagged, tokenAt}
 use Rattle.rules.specs.Events.{Event, opens, has, closes, nodeNameAt, stringAt, saying}
 use Rattle.rules.specs.Copy.{when}
@@ -25,7 +25,7 @@ use Rattle.rules.specs.Laws.Tokens.{if-by}
 use Rattle.rules.specs.Laws.Events.{eventsAt, events-all, events-item, events-end, events-cut}
 use Rattle.rules.specs.Laws.Writer.{length-begin, length-end, length-property}
 use Rattle.guest.specs.declared.walk.Named.the-variants.{At, Nothing}
-use Rattle.guest.specs.Walked.{blockOf, marked, copies, nextOf, skippedOf, heard, sift}
+use Rattle.guest.specs.Walked.{marked, copies, nextOf, skippedOf, heard, sift}
 use Rattle.guest.specs.Measured.{namesOf, namesIn, propOf, nameAt, structureSize}
 
 -- ---- the copy from a place on

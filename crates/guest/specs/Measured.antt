@@ -10,6 +10,7 @@ use lib.ListN.{length, getD}
 use Rattle.rules.specs.Ceilings.{blobCeiling, workWords}
 use Rattle.rules.specs.Space.{stackAt}
 use Rattle.rules.specs.Octets.{Bytes, if_then_else_, lay, same}
+use Rattle.rules.specs.Blob.{blockOf}
 use Rattle.rules.specs.Events.{Event, opens, has, closes, stringAt, eventsIn}
 use Rattle.rules.specs.Writer.{beginBytes, endBytes, propertyBytes}
 use Rattle.rules.specs.declared.Kind.{Kind}
@@ -18,7 +19,7 @@ use Rattle.guest.specs.declared.walk.Named.{Named}
 use Rattle.guest.specs.declared.walk.Named.the-variants.{At, Nothing}
 use Rattle.guest.specs.declared.measured.Sum.{Sum}
 use Rattle.guest.specs.declared.Size.{Size}
-use Rattle.guest.specs.Walked.{blockOf, marked, sift, copyOf, Kept}
+use Rattle.guest.specs.Walked.{marked, sift, copyOf, Above}
 
 -- ---- names
 
@@ -107,7 +108,7 @@ pub record Entered (block : Bytes) (ws vs : List ℕ) (done : List Bytes) (sum r
   pub strings : r .strings ≡ sum .strings + growthOf done (nameAt block name)
   pub props : r .props ≡ sum .props + length (nameAt block name)
   pub tabled : Tabled block vs (r .names) (done ++ nameAt block name)
-  pub kept : Kept ws vs
+  pub kept : Above ws vs
 
 -- the sizes are those of the copy of a structure and its strings
 pub record Sized (s t : Bytes) (ws : List ℕ) (size : Size) : Type 0 where

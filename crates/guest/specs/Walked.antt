@@ -10,7 +10,7 @@ use Rattle.rules.specs.Ceilings.{blobCeiling, nodeCeiling, workWords}
 use Rattle.rules.specs.Space.{marksAt, stackAt}
 use Rattle.rules.specs.Octets.{Bytes, if_then_else_, part}
 use Rattle.rules.specs.Outcome.{passes}
-use Rattle.rules.specs.Blob.{Block}
+use Rattle.rules.specs.Blob.{Block, blockOf}
 use Rattle.rules.specs.Events.{Event, opens, has, closes, nodeNameAt, stringAt, shapeJudged, eventsIn}
 use Rattle.rules.specs.Tree.{nodesOf}
 use Rattle.rules.specs.Copy.{when, sieve}
@@ -18,11 +18,8 @@ use Rattle.rules.specs.Written.{Blocks, writeEvents}
 use Rattle.rules.specs.declared.Kind.{Kind}
 use Rattle.rules.specs.declared.Kind.the-variants.{Begin, EndNode, Prop, Nop}
 use Rattle.rules.specs.Laws.Sieve.{Upward}
+use Rattle.rules.specs.Laws.Kept.{Only}
 use Rattle.guest.specs.declared.walk.Walk.{Walk}
-
--- a structure and its strings, and where the structure stands in the blob
-abbrev pub blockOf : (place : ℕ) (structure strings : Bytes) → Block
-blockOf place structure strings = record { place = place; structure = structure; strings = strings }
 
 -- node i is copied where its word among the marks is 1; there is a word for each node up to the ceiling
 unfoldable pub marked : List ℕ → ℕ → Bool
@@ -76,7 +73,7 @@ blank = record { structure = []; strings = [] }
 unfoldable pub copyOf : (structure strings : Bytes) → (ws : List ℕ) → Blocks
 copyOf structure strings ws = writeEvents blank (sift (marked ws) 0 0 (eventsIn (blockOf 0 structure strings)))
 
--- the blocks of the copy that 01 says
+-- the events of the copy that 01 says
 abbrev pub sieved : (place : ℕ) (structure strings : Bytes) → (ws : List ℕ) → List Event
 sieved place structure strings ws = sieve (marked ws) [] 0 (eventsIn (blockOf place structure strings))
 
@@ -87,11 +84,9 @@ pub record Ready (place : ℕ) (structure strings : Bytes) (ws : List ℕ) : Typ
 
 -- ---- the work space
 
--- the words from the stack on, to the end of the work space, may change
-pub record Kept (ws vs : List ℕ) : Type 0 where
-  pub size : length vs ≡ length ws
-  pub front : (i : ℕ) → i < stackAt → getD vs i 0 ≡ getD ws i 0
-  pub behind : (i : ℕ) → workWords ≤ i → getD vs i 0 ≡ getD ws i 0
+-- only the words from the stack on, to the end of the work space, may change
+abbrev pub Above : (ws vs : List ℕ) → Type 0
+Above = Only stackAt workWords
 
 -- a walk that has come no further than the ceiling
 pub record Near (w : Walk) : Type 0 where

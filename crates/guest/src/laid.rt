@@ -10,14 +10,15 @@ use rules::FDT_LAST_COMP_VERSION;
 use rules::FDT_MAGIC;
 use rules::FDT_VERSION;
 use rules::Kind;
-ghost use mathlib.Core.Path.{_≡_};
 ghost use mathlib.Core.List.{[]};
+ghost use mathlib.Core.Path.{_≡_};
 ghost use Prim.Native.Nat.{_+_, _%_, _≤_};
 ghost use lib.ListN.{length};
 ghost use Rattle.rules.specs.Ceilings.{blobCeiling};
 ghost use Rattle.rules.specs.Octets.{put};
+ghost use Rattle.rules.specs.Blob.{blockOf};
 ghost use Rattle.rules.specs.Written.{blobWith};
-ghost use Rattle.guest.specs.Walked.{blockOf, marked, copies, heard};
+ghost use Rattle.guest.specs.Walked.{marked, copies, heard};
 ghost use Rattle.guest.specs.Laid.{blocksIn, wrote, withProperty, Fits, Begun, Lays};
 
 // The bytes of the empty reservation block: one pair of zeros.

@@ -13,14 +13,14 @@ use measured::turn;
 use rules::Token;
 use walk::Walk;
 use walk::onward;
-ghost use mathlib.Core.Path.{_≡_};
 ghost use mathlib.Core.List.{[]};
+ghost use mathlib.Core.Path.{_≡_};
 ghost use Prim.Native.Nat.{ℕ, _+_, _*_, _≤_};
 ghost use lib.ListN.{length};
 ghost use Rattle.rules.specs.Ceilings.{blobCeiling, workWords};
 ghost use Rattle.rules.specs.Octets.{put};
 ghost use Rattle.rules.specs.Written.{writeEvents, blobOf};
-ghost use Rattle.guest.specs.Walked.{blank, copyOf, sieved, Ready, Kept};
+ghost use Rattle.guest.specs.Walked.{blank, copyOf, sieved, Ready, Above};
 ghost use Rattle.guest.specs.Measured.{Sized};
 ghost use Rattle.guest.specs.Laid.{sizeOf, Lays};
 
@@ -35,7 +35,7 @@ pub struct Size {
 pub fn measure(structure: &[u8], strings: &[u8], work: &mut [u32]) -> Size
     requires { ⌜ (length (now structure) ≤ blobCeiling) × (length (now strings) ≤ blobCeiling) × (workWords ≤ length (now work)) ⌝ }
     ensures sized { λ r. ⌜ Sized (now (structure .entry)) (now (strings .entry)) (now (work .exit)) r ⌝ }
-    ensures kept { λ _. ⌜ Kept (now (work .entry)) (now (work .exit)) ⌝ }
+    ensures kept { λ _. ⌜ Above (now (work .entry)) (now (work .exit)) ⌝ }
     ensures small { λ r. ⌜ (r .structure ≤ blobCeiling) × (r .strings ≤ blobCeiling * (blobCeiling + 1)) ⌝ }
     ensures sieved { λ r. ⌜ ((place : ℕ) → Ready place (now (structure .entry)) (now (strings .entry)) (now (work .entry)) → (r .structure ≡ length (writeEvents blank (sieved place (now (structure .entry)) (now (strings .entry)) (now (work .entry))) .structure)) × (r .strings ≡ length (writeEvents blank (sieved place (now (structure .entry)) (now (strings .entry)) (now (work .entry))) .strings))) ⌝ }
 {

@@ -5,7 +5,7 @@ use mathlib.Core.List.{[], _∷_}
 use lib.Dec.{eqb, ltb}
 use lib.ListN.{length}
 use Rattle.rules.specs.Octets.{Bytes, wordAt}
-use Rattle.rules.specs.Outcome.{Test, first}
+use Rattle.rules.specs.Outcome.{first}
 use Rattle.rules.specs.Blob.{headerIn, misplaced, headerJudged}
 use Rattle.header.specs.Header.{mistotalled, misversioned}
 

@@ -1,2 +1,3 @@
 -- What the proofs of the header share.
 pub mod Heads
+pub mod Unique

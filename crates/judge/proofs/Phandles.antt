@@ -9,7 +9,7 @@ use lib.ListN.{length, take}
 use borrow.Author.Tests.{lt-ltb, le-ltb}
 use Rattle.rules.specs.Octets.{Bytes, if_then_else_, be32}
 use Rattle.rules.specs.Lists.{oneOf}
-use Rattle.rules.specs.Outcome.{Outcome, gives, refuses, Test, first, _then_}
+use Rattle.rules.specs.Outcome.{gives, refuses, Test, first, _then_}
 use Rattle.rules.specs.Writer.{State, impossible, nameOffset, test, stringsOf, propertyAt, propertyTests, phandleName, phandleJudged}
 use Rattle.rules.specs.Laws.Octets.{length-be32}
 use Rattle.rules.specs.Laws.Writer.{length-property}

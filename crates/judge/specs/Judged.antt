@@ -1,16 +1,15 @@
 -- What the tests of a call answer: the definitions of rules, with a property's size for its value.
 use mathlib.Core.Path.{_≡_, refl, sym, ap, _∙_}
-use mathlib.Core.Bool.{Bool, true, false, not}
-use mathlib.Core.List.{List, [], _∷_, _++_}
+use mathlib.Core.Bool.{Bool, not}
+use mathlib.Core.List.{List, [], _∷_}
 use Prim.Native.Nat.{ℕ, _+_}
 use lib.Dec.{eqb, ltb}
 use lib.ListN.{length}
 use Rattle.rules.specs.Octets.{Bytes, if_then_else_, hasNul, closed}
 use Rattle.rules.specs.Names.{propertyNameValid}
-use Rattle.rules.specs.Outcome.{Outcome, gives, refuses, Verdict, passes, Test, first, _then_}
+use Rattle.rules.specs.Outcome.{Outcome, gives, refuses, Verdict, passes, first, _then_}
 use Rattle.rules.specs.Writer.{State, wrongState, test, noRoom, growth, stringsOf, nameOffset, phandleName, phandleJudged}
 use Rattle.judge.specs.Meaning.{numberOf, errorOf, error-of}
-use Rattle.judge.specs.declared.Error.{Error}
 use Rattle.judge.specs.declared.Judged.{Judged}
 use Rattle.judge.specs.declared.Judged.the-variants.{Passed, No}
 use Rattle.judge.specs.declared.Place.{Place}

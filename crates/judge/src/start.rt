@@ -7,7 +7,7 @@ use rules::FDT_HEADER_SIZE;
 use rules::RESERVATION_CEILING;
 ghost use mathlib.Core.Path.{_≡_};
 ghost use Prim.Native.Nat.{_+_, _*_, _≤_, min};
-ghost use lib.ListN.{length, take};
+ghost use lib.ListN.{take};
 ghost use Rattle.rules.specs.Octets.{lay};
 ghost use Rattle.rules.specs.Reservations.{block};
 ghost use Rattle.rules.specs.Writer.{startBytes, startJudged};

@@ -64,14 +64,6 @@ module _ (ws : List ℕ) (room : workWords ≤ length ws) where
   unfolding stackIn
   stack-length s h = length-take-le s (drop stackAt ws) (simp length-drop (omega (arith, names-behind, names-inside)))
 
-  -- the last of the list and of the stack
-  pub list-last : (n : ℕ) → n < nodeCeiling → listIn ws (n + 1) ≡ listIn ws n ++ (getD ws (listAt + n) 0 ∷ [])
-  unfolding listIn
-  list-last n h =
-      ap (λ (k : ℕ). take k (drop listAt ws)) (add-one n)
-      ∙ take-suc (drop listAt ws) n 0 (simp length-drop (omega (arith, stack-behind, names-behind, names-inside)))
-      ∙ ap (λ (y : ℕ). take n (drop listAt ws) ++ (y ∷ [])) (getD-drop listAt ws n 0)
-
   pub stack-last : (s : ℕ) → s < nodeCeiling → stackIn ws (s + 1) ≡ stackIn ws s ++ (getD ws (stackAt + s) 0 ∷ [])
   unfolding stackIn
   stack-last s h =

@@ -4,7 +4,7 @@ use crate::note::enter;
 use paths::nodes::below;
 use rules::MARKS_AT;
 use rules::STACK_AT;
-ghost use mathlib.Core.List.{_∷_, []};
+ghost use mathlib.Core.List.{[], _∷_};
 ghost use Prim.Native.Nat.{ℕ, _<_, _≤_};
 ghost use lib.ListN.{length};
 ghost use Rattle.rules.specs.Ceilings.{nodeCeiling, workWords};

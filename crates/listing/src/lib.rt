@@ -5,8 +5,8 @@ use crate::given::clear_marks;
 use crate::given::list_each;
 use crate::sift::sift;
 use crate::walk::walk;
+ghost use Rattle.rules.specs.Blob.{blockOf};
 ghost use Rattle.order.specs.Starts.{Asked};
-ghost use Rattle.references.specs.Cells.{blockOf};
 ghost use Rattle.listing.specs.Lists.{Reaches, Lists};
 
 mod given;

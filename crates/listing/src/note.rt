@@ -3,7 +3,7 @@ use rules::LIST_AT;
 use rules::MARKS_AT;
 use rules::STACK_AT;
 ghost use mathlib.Core.Path.{_≡_};
-ghost use mathlib.Core.List.{_∷_, []};
+ghost use mathlib.Core.List.{[], _∷_};
 ghost use Prim.Native.Nat.{ℕ, _<_, _≤_};
 ghost use Rattle.rules.specs.Ceilings.{nodeCeiling};
 ghost use Rattle.listing.specs.State.{entered, Piled, Stacks};

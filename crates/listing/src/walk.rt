@@ -2,8 +2,8 @@
 use crate::note::Ends;
 use crate::visit::visit;
 use rules::STACK_AT;
+ghost use Rattle.rules.specs.Blob.{blockOf};
 ghost use Rattle.rules.specs.Laws.Kept.{Kept};
-ghost use Rattle.references.specs.Cells.{blockOf};
 ghost use Rattle.listing.specs.State.{Piled};
 ghost use Rattle.listing.specs.Walk.{Walked};
 

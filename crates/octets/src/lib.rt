@@ -1,7 +1,7 @@
 // Total leaves on slices: reading numbers, comparing byte strings, laying bytes into a lent buffer. No call asks anything of
 // its caller: what stands past the end reads 0, and what would be written past the end is dropped.
 ghost use mathlib.Core.Path.{_≡_};
-ghost use mathlib.Core.List.{_∷_, []};
+ghost use mathlib.Core.List.{[], _∷_};
 ghost use Prim.Native.Nat.{_+_, _-_, _*_, _<_, min};
 ghost use lib.Dec.{ltb};
 ghost use lib.ListN.{getD, drop};

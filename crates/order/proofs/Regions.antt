@@ -17,8 +17,7 @@ use Rattle.rules.specs.Laws.Octets.{lay-put, lay-past, lay-nil, lay-one, lay-la
 use Rattle.rules.specs.Laws.Order.{before-trans}
 use Rattle.rules.specs.Laws.Kept.{lay-before}
 use Rattle.rules.specs.Laws.Paths.{Formed}
-use Rattle.rules.specs.Laws.Tabled.{tree-length}
-use Rattle.paths.specs.Trees.{treeOf}
+use Rattle.rules.specs.Laws.Tabled.{tree-length, treeOf}
 use Rattle.paths.specs.Order.{Orders}
 use Rattle.order.specs.Region.{nodeOf, Ordered, Between, Halves, inserted}
 

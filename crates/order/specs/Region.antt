@@ -8,7 +8,7 @@ use Rattle.rules.specs.Octets.{Bytes, part, lay, before}
 use Rattle.rules.specs.Tree.{Tree, path}
 use Rattle.rules.specs.Space.{stackAt}
 use Rattle.rules.specs.Laws.Paths.{Formed}
-use Rattle.paths.specs.Trees.{treeOf}
+use Rattle.rules.specs.Laws.Tabled.{treeOf}
 
 -- the node at an index
 abbrev pub nodeOf : List ℕ → ℕ → ℕ

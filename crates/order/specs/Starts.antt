@@ -13,9 +13,6 @@ use Rattle.rules.specs.Laws.Lists.{Distinct}
 use Rattle.rules.specs.Laws.Tabled.{treeIn}
 use Rattle.rules.specs.Laws.Kept.{Kept}
 
-abbrev pub block : (place : ℕ) (structure strings : Bytes) → Block
-block place structure strings = record { place = place; structure = structure; strings = strings }
-
 -- the work space keeps an accepted tree's table, and the configured nodes are nodes of it, none twice
 pub record Asked (b : Block) (ws : List ℕ) (count : ℕ) (conf : List ℕ) : Type 0 where
   pub kept : Kept b ws count

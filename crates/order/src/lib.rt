@@ -8,11 +8,11 @@ ghost use mathlib.Core.List.{List};
 ghost use Prim.Native.Nat.{ℕ, _+_, _≤_, _<_};
 ghost use Rattle.rules.specs.Ceilings.{nodeCeiling};
 ghost use Rattle.rules.specs.Octets.{Bytes};
-ghost use Rattle.rules.specs.Blob.{Block};
+ghost use Rattle.rules.specs.Blob.{Block, blockOf};
 ghost use Rattle.rules.specs.Tree.{frame};
 ghost use Rattle.rules.specs.Listing.{within};
 ghost use Rattle.rules.specs.Laws.Tabled.{treeIn};
-ghost use Rattle.order.specs.Starts.{block, Asked, Placed, Started};
+ghost use Rattle.order.specs.Starts.{Asked, Placed, Started};
 
 mod sorted;
 
@@ -46,7 +46,7 @@ fn turn(
 ) -> usize
     requires { ⌜ (i < count) × (n < count) × (count ≤ nodeCeiling) ⌝ }
     ensures few { λ r. ⌜ r ≤ n + 1 ⌝ }
-    ensures placed { λ r. ⌜ ((strings : Bytes) (ws : List ℕ) → Asked (block place (now (structure .entry)) strings) ws count (now (conf .entry)) → Placed (block place (now (structure .entry)) strings) ws count (now (conf .entry)) (i + 1) n (now (work .entry)) → Placed (block place (now (structure .entry)) strings) ws count (now (conf .entry)) i r (now (work .exit))) ⌝ }
+    ensures placed { λ r. ⌜ ((strings : Bytes) (ws : List ℕ) → Asked (blockOf place (now (structure .entry)) strings) ws count (now (conf .entry)) → Placed (blockOf place (now (structure .entry)) strings) ws count (now (conf .entry)) (i + 1) n (now (work .entry)) → Placed (blockOf place (now (structure .entry)) strings) ws count (now (conf .entry)) i r (now (work .exit))) ⌝ }
 {
     if !within_any(work, count, conf, i) {
         return n;
@@ -61,7 +61,7 @@ fn turn(
 pub fn starts(structure: &[u8], place: usize, work: &mut [u32], count: usize, conf: &[u32]) -> usize
     requires { ⌜ count ≤ nodeCeiling ⌝ }
     ensures few { λ r. ⌜ r ≤ count ⌝ }
-    ensures started { λ r. ⌜ ((strings : Bytes) → Asked (block place (now (structure .entry)) strings) (now (work .entry)) count (now (conf .entry)) → Started (block place (now (structure .entry)) strings) (now (work .entry)) count (now (conf .entry)) r (now (work .exit))) ⌝ }
+    ensures started { λ r. ⌜ ((strings : Bytes) → Asked (blockOf place (now (structure .entry)) strings) (now (work .entry)) count (now (conf .entry)) → Started (blockOf place (now (structure .entry)) strings) (now (work .entry)) count (now (conf .entry)) r (now (work .exit))) ⌝ }
 {
     let mut n = 0;
     let mut i = count;

@@ -2,7 +2,7 @@
 use paths::order::path_before;
 use rules::STACK_AT;
 ghost use mathlib.Core.Path.{_≡_};
-ghost use mathlib.Core.List.{_∷_, []};
+ghost use mathlib.Core.List.{[], _∷_};
 ghost use Prim.Native.Nat.{_+_, _≤_, _<_};
 ghost use Rattle.rules.specs.Ceilings.{nodeCeiling};
 ghost use Rattle.rules.specs.Octets.{Bytes, lay};

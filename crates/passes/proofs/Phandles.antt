@@ -12,7 +12,7 @@ use denote.Enum.Declared.{tagOf}
 use borrow.Author.Tests.{eqb-true, eqb-false}
 use Rattle.rules.specs.Octets.{Bytes, wordAt, part}
 use Rattle.rules.specs.Outcome.{Verdict, refuses, passes}
-use Rattle.rules.specs.Blob.{Block}
+use Rattle.rules.specs.Blob.{Block, blockOf}
 use Rattle.rules.specs.Tokens.{tokenAt}
 use Rattle.rules.specs.Events.{Property, Event, opens, has, closes, stringAt, saying, eventsIn}
 use Rattle.rules.specs.Tree.{Node, propsOf, rest, nodesFrom, nodesOf, isPhandle, phandleProp}
@@ -26,7 +26,7 @@ use Rattle.passes.specs.declared.shared.Row.{Row}
 use Rattle.passes.specs.declared.shared.Row.the-variants.{Go, Fault}
 use Rattle.passes.specs.Rows.{rowHas, rowBelow, rowGiven, rowsFrom, passed, rowGive, rowProp, rowTurn}
 use Rattle.rules.specs.Laws.Events.{eventsAt}
-use Rattle.doubled.specs.Passes.{blockOf, nodesIn}
+use Rattle.doubled.specs.Passes.{nodesIn}
 use Rattle.doubled.proofs.Turns.{events-all, events-item, events-stop}
 use Rattle.rules.specs.Laws.Passes.{phandle-here, phandle-past}
 
@@ -143,9 +143,9 @@ rows-none wants i w = refl
 
 -- ---- the walk from its start to its end
 
-pub rows-start : (s strings : Bytes) (w : List ℕ) (p : ℕ) → rowsRest false 0 w (eventsAt (blockOf s strings p) 0) ≡ rowsFrom w 0 (nodesIn s strings p)
+pub rows-start : (s strings : Bytes) (w : List ℕ) (p : ℕ) → rowsRest false 0 w (eventsAt (blockOf p s strings) 0) ≡ rowsFrom w 0 (nodesIn s strings p)
 unfolding nodesOf
-rows-start s strings w p = ap (rowsRest false 0 w) (events-all (blockOf s strings p)) ∙ rows-nodes false 0 w [] 0 (eventsIn (blockOf s strings p))
+rows-start s strings w p = ap (rowsRest false 0 w) (events-all (blockOf p s strings)) ∙ rows-nodes false 0 w [] 0 (eventsIn (blockOf p s strings))
 
 module _ (b : Block) (wants : Bool) (i : ℕ) (w : List ℕ) (at : ℕ) (h : at ≤ length (b .structure)) (r : Token) (e : r ≡ tokenAt (b .structure) at) where
   pub rows-stop : OneOf (1 ∷ 2 ∷ []) (tagOf tokened.the-type r) → rowsRest wants i w (eventsAt b at) ≡ (passes, w)

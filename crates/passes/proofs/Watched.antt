@@ -12,7 +12,7 @@ use denote.Enum.Declared.{tagOf}
 use borrow.Author.Tests.{eqb-true, eq-eqb, ne-eqb}
 use Rattle.rules.specs.Octets.{Bytes, if_then_else_, byteAt, wordAt, ascii, same}
 use Rattle.rules.specs.Outcome.{Verdict, refuses, passes, _then_, first}
-use Rattle.rules.specs.Blob.{Block}
+use Rattle.rules.specs.Blob.{Block, blockOf}
 use Rattle.rules.specs.Events.{Property, Event, opens, has, closes, saying, eventsIn}
 use Rattle.rules.specs.Tree.{propsOf, rest, nodesFrom, nodesOf, isPhandle, among, cellsNames, differs, wordsFrom, wordsJudged}
 use Rattle.rules.specs.Tokens.{tokenAt}
@@ -30,7 +30,7 @@ use Rattle.passes.specs.declared.cells.Turn.the-variants.{Go, Fault}
 use Rattle.passes.proofs.cells.Seen as seens
 use Rattle.passes.specs.Cells.{had, onGiven, onProperty, onHas, onKind}
 use Rattle.rules.specs.Laws.Events.{eventsAt}
-use Rattle.doubled.specs.Passes.{blockOf, nodesIn}
+use Rattle.doubled.specs.Passes.{nodesIn}
 use Rattle.doubled.proofs.Turns.{events-all, events-item, events-stop}
 
 -- ---- names
@@ -143,9 +143,9 @@ again seen u v e h = rw (e, eq-eqb u v h)
 
 -- ---- the walk from its start to its end
 
-pub words-start : (s strings : Bytes) (p : ℕ) → wordsRest Outside (eventsAt (blockOf s strings p) 0) ≡ wordsJudged (nodesIn s strings p)
+pub words-start : (s strings : Bytes) (p : ℕ) → wordsRest Outside (eventsAt (blockOf p s strings) 0) ≡ wordsJudged (nodesIn s strings p)
 unfolding nodesOf
-words-start s strings p = ap (wordsRest Outside) (events-all (blockOf s strings p)) ∙ words-nodes Outside [] 0 (eventsIn (blockOf s strings p))
+words-start s strings p = ap (wordsRest Outside) (events-all (blockOf p s strings)) ∙ words-nodes Outside [] 0 (eventsIn (blockOf p s strings))
 
 module _ (b : Block) (seen : Seen) (at : ℕ) (i : at ≤ length (b .structure)) (r : Token) (e : r ≡ tokenAt (b .structure) at) where
   -- no item follows

@@ -1,6 +1,6 @@
 -- Climbing from parent to parent, in any tree: what one step says.
-use mathlib.Core.Path.{_≡_, refl, sym, ap, _∙_}
-use mathlib.Core.Bool.{Bool, true, false, _||_}
+use mathlib.Core.Path.{_≡_, refl, sym, _∙_}
+use mathlib.Core.Bool.{true, false, _||_}
 use mathlib.Core.List.{List, [], _∷_, _++_}
 use mathlib.Core.Option.{Option, none, some}
 use Prim.Native.Nat.{ℕ, zero, suc, _+_, _-_, _≤_, _<_}
@@ -8,10 +8,9 @@ use native.Mathlib.Nat.{sub-zero}
 use native.Mathlib.Omega.{arith}
 use native.Mathlib.Numerals.{add-one}
 use lib.Dec.{eqb}
-use lib.ListN.{length}
 use borrow.Author.Tests.{eq-eqb, ne-eqb}
 use Rattle.rules.specs.Octets.{Bytes, same}
-use Rattle.rules.specs.Tree.{Tree, node, climb, spell, path, Frame, frame, numbersFrom}
+use Rattle.rules.specs.Tree.{Tree, node, climb, spell, path, frame, numbersFrom}
 use Rattle.rules.specs.Derivation.{nodeAmong, nodeAt}
 use Rattle.rules.specs.Blob.{Block}
 use Rattle.rules.specs.Laws.Tabled.{treeIn, tree-length}

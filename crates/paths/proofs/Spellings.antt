@@ -1,9 +1,9 @@
 -- A path laid down from its end.
 use mathlib.Core.Path.{_≡_, refl, sym, ap, ap₂, _∙_}
 use mathlib.Core.List.{List, [], _∷_, _++_, append-assoc, append-nil}
-use Prim.Native.Nat.{ℕ, zero, suc, _+_, _-_, _≤_, _<_}
+use Prim.Native.Nat.{ℕ, _+_, _-_, _≤_, _<_}
 use native.Mathlib.Omega.{arith}
-use lib.ListN.{length, take, drop, getD, length-append, length-take, length-drop, List·getD-eq-default}
+use lib.ListN.{length, drop, getD, length-append, length-take, length-drop, List·getD-eq-default}
 use lib.Seq.{getD-take, ext-getD}
 use Rattle.rules.specs.Octets.{Bytes, nulIn, closed, put, lay}
 use Rattle.rules.specs.Blob.{Block}
@@ -11,8 +11,8 @@ use Rattle.rules.specs.Events.{stringAt}
 use Rattle.rules.specs.Tree.{Tree, Node, node, spell, path}
 use Rattle.rules.specs.Laws.Tests.{by-le}
 use Rattle.rules.specs.Laws.Octets.{length-lay, lay-past, lay-nil, lay-lay, put-before, put-inside, put-behind}
-use Rattle.rules.specs.Laws.Tabled.{treeIn, nodeIn, node-in, node-out}
-use Rattle.paths.proofs.Climbs.{spell-none, spell-root, spell-step, path-other}
+use Rattle.rules.specs.Laws.Tabled.{treeIn, node-in, node-out}
+use Rattle.paths.proofs.Climbs.{spell-root, spell-step, path-other}
 
 -- ---- two that touch, the second laid first
 

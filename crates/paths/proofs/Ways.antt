@@ -1,22 +1,17 @@
 -- Two ways up from two nodes, until they meet: where they part, the paths do.
 use mathlib.Core.Path.{_≡_, refl, sym, ap, ap₂, subst, _∙_}
 use mathlib.Core.Logic.{_⊎_, inl, inr}
-use mathlib.Core.Bool.{Bool, true, false, not}
-use mathlib.Core.List.{List, [], _∷_, _++_, append-assoc, append-nil}
+use mathlib.Core.Bool.{true, false, not}
+use mathlib.Core.List.{[], _∷_, _++_, append-assoc, append-nil}
 use Prim.Native.Nat.{ℕ, zero, suc, _+_, _-_, _≤_, _<_}
 use native.Mathlib.Omega.{arith}
 use lib.Dec.{eqb, ltb}
 use lib.ListN.{length}
-use borrow.Author.Tests.{eqb-true, eqb-false, eq-eqb, ne-eqb, lt-ltb}
+use borrow.Author.Tests.{eq-eqb, ne-eqb, lt-ltb}
 use Rattle.rules.specs.Octets.{Bytes, if_then_else_, before}
-use Rattle.rules.specs.Blob.{Block}
 use Rattle.rules.specs.Tree.{Tree, node, spell, path}
-use Rattle.rules.specs.Laws.Tests.{by-test, not-passed}
 use Rattle.rules.specs.Laws.Paths.{Formed, trail, trail-step, by-parent}
-use Rattle.rules.specs.Laws.Order.{before-irrefl}
-use Rattle.rules.specs.Laws.Tabled.{treeIn, tree-length}
-use Rattle.paths.specs.declared.order.Fork.{Fork}
-use Rattle.paths.specs.Order.{slash, nearer, Behind, Way, Parted, Met}
+use Rattle.paths.specs.Order.{slash, Behind, Way, Parted}
 use Rattle.paths.proofs.Names.{before-front, before-none, before-nil, before-same, Follows, names-order}
 
 module _ (t : Tree) (w : Formed t) where

@@ -1,3 +1,2 @@
--- The tree that the functions of this crate speak of; what its paths are is said in rules: Tree.
-pub mod Trees
+-- How two paths part, for their order. What paths are is said in rules: Tree.
 pub mod Order

@@ -1,7 +1,7 @@
 -- Byte order of paths: what the parts of the comparison promise each other.
 use mathlib.Core.Path.{_≡_}
 use mathlib.Core.Logic.{_⊎_}
-use mathlib.Core.Bool.{Bool, true, false}
+use mathlib.Core.Bool.{Bool}
 use mathlib.Core.List.{List, [], _∷_, _++_}
 use Prim.Native.Nat.{ℕ, _≤_, _<_}
 use lib.Dec.{ltb}
@@ -10,9 +10,8 @@ use Rattle.rules.specs.Octets.{Bytes, if_then_else_, before}
 use Rattle.rules.specs.Blob.{Block}
 use Rattle.rules.specs.Tree.{Tree, node, path}
 use Rattle.rules.specs.Laws.Paths.{Formed, trail}
-use Rattle.rules.specs.Laws.Tabled.{treeIn}
+use Rattle.rules.specs.Laws.Tabled.{treeIn, treeOf}
 use Rattle.paths.specs.declared.order.Fork.{Fork}
-use Rattle.paths.specs.Trees.{treeOf}
 
 -- what follows a name
 abbrev pub slash : (more : Bool) → Bytes

@@ -9,8 +9,8 @@ ghost use lib.ListN.{length, take};
 ghost use Rattle.rules.specs.Octets.{Bytes, ends, same};
 ghost use Rattle.rules.specs.Tree.{path, frame};
 ghost use Rattle.rules.specs.Derivation.{nodeAt};
+ghost use Rattle.rules.specs.Laws.Tabled.{treeOf};
 ghost use Rattle.references.specs.Table.{found};
-ghost use Rattle.paths.specs.Trees.{treeOf};
 
 // Whether the first e bytes of a path end in a slash and this name.
 fn closes(p: &[u8], e: usize, name: &[u8]) -> bool

@@ -6,8 +6,7 @@ ghost use Prim.Native.Nat.{_<_};
 ghost use Rattle.rules.specs.Octets.{Bytes};
 ghost use Rattle.rules.specs.Blob.{Block};
 ghost use Rattle.rules.specs.Tree.{node, below};
-ghost use Rattle.rules.specs.Laws.Tabled.{treeIn};
-ghost use Rattle.paths.specs.Trees.{treeOf};
+ghost use Rattle.rules.specs.Laws.Tabled.{treeIn, treeOf};
 
 // The number of the parent of node i; 0 for the root and past the last row.
 pub fn up(work: &[u32], count: usize, i: usize) -> usize

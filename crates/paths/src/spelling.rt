@@ -7,7 +7,7 @@ ghost use lib.ListN.{length};
 ghost use Rattle.rules.specs.Ceilings.{blobCeiling, nodeCeiling};
 ghost use Rattle.rules.specs.Octets.{Bytes, lay, closed};
 ghost use Rattle.rules.specs.Tree.{path};
-ghost use Rattle.paths.specs.Trees.{treeOf};
+ghost use Rattle.rules.specs.Laws.Tabled.{treeOf};
 
 // How many bytes the path of node i has. The ceilings keep the sum of its names a usize.
 pub fn path_len(structure: &[u8], place: usize, work: &[u32], count: usize, i: usize) -> usize

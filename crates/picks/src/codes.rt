@@ -1,4 +1,5 @@
-// What a node inherits from its parent, in one number.
+// What a node inherits from its parent, in one number: outside `/cpus` 0, or 1 at or below a listed node, or 2 at or below an
+// exclusion; at or below `/cpus` 3 where it is kept, and 4 where it is not.
 use asked::one_of;
 use cpus::children::is_cpus;
 use cpus::children::stranger;
@@ -10,8 +11,7 @@ ghost use Prim.Native.Nat.{_≤_, _<_};
 ghost use lib.Dec.{eqb};
 ghost use Rattle.rules.specs.Ceilings.{nodeCeiling};
 ghost use Rattle.rules.specs.Octets.{if_then_else_};
-ghost use Rattle.rules.specs.Blob.{Block};
-ghost use Rattle.references.specs.Cells.{blockOf};
+ghost use Rattle.rules.specs.Blob.{Block, blockOf};
 ghost use Rattle.picks.specs.Codes.{taken};
 ghost use Rattle.picks.specs.Turns.{parentCode, codeAt};
 

@@ -14,8 +14,8 @@ ghost use Prim.Native.Nat.{ℕ, _+_, _≤_, _<_};
 ghost use lib.ListN.{getD};
 ghost use Rattle.rules.specs.Ceilings.{nodeCeiling};
 ghost use Rattle.rules.specs.Space.{listAt};
+ghost use Rattle.rules.specs.Blob.{blockOf};
 ghost use Rattle.rules.specs.Laws.Kept.{Kept};
-ghost use Rattle.references.specs.Cells.{blockOf};
 ghost use Rattle.picks.specs.Turns.{turned, Each, Picks};
 
 // What is left to do for node i, once the marks are made: its code, and its mark.

@@ -1,24 +1,21 @@
 -- The parts of the reader joined: what the header, the walk and the passes promise gives what `read` promises.
 use mathlib.Core.Path.{_≡_, refl, sym, ap, _∙_, subst}
-use mathlib.Core.Bool.{true, false}
-use mathlib.Core.List.{List, [], _∷_}
-use Prim.Native.Nat.{ℕ, _+_, _-_, _*_, _≤_, _<_}
+use mathlib.Core.List.{List, []}
+use Prim.Native.Nat.{ℕ, _+_, _-_, _≤_, _<_}
 use native.Mathlib.Omega.{arith}
-use lib.Dec.{ltb}
 use lib.ListN.{length, take, drop, length-take}
 use borrow.Author.Tests.{lt-ltb, le-ltb}
-use Rattle.rules.specs.Ceilings.{workWords, nodeCeiling, blobCeiling}
+use Rattle.rules.specs.Ceilings.{workWords, blobCeiling}
 use Rattle.rules.specs.Octets.{Bytes, zeros, lay}
 use Rattle.rules.specs.Outcome.{Outcome, Verdict, gives, refuses, passes, _then_}
-use Rattle.rules.specs.Blob.{headerIn, headerJudged, Block, blockIn}
-use Rattle.rules.specs.Events.{shapeJudged, eventsIn}
-use Rattle.rules.specs.Tree.{Tree, nodesOf, doubledJudged, wordsJudged, sharedJudged}
+use Rattle.rules.specs.Blob.{headerIn, headerJudged, Block, blockIn, blockOf}
+use Rattle.rules.specs.Events.{shapeJudged}
+use Rattle.rules.specs.Tree.{Tree, doubledJudged, wordsJudged, sharedJudged}
 use Rattle.rules.specs.Reader.{treeRead, eventsRead, blobJudged, spaceJudged, read, rowsOf, spaceOf, tableOf, readWork}
 use Rattle.rules.specs.Laws.Verdicts.{then-passes, passes-then}
 use Rattle.rules.specs.Laws.Blob.{Inside, header-inside}
 use Rattle.rules.specs.Laws.Reader.{startsOf, starts-length, table-fits, space-length, space-space, space-clear}
 use Rattle.rules.specs.Laws.Table.{rows-length, nodes-few, read-table}
-use Rattle.doubled.specs.Passes.{blockOf}
 use Rattle.header.specs.declared.Parts.{Parts}
 use Rattle.header.specs.declared.Refusal.{Refusal as HeaderRefusal}
 use Rattle.header.specs.Header.{Found, refused as headed}
@@ -32,7 +29,7 @@ use Rattle.reader.specs.declared.Refusal.the-variants.{NoSpace, Short, M
 use Rattle.reader.specs.declared.Answer.{Answer}
 use Rattle.reader.specs.declared.Answer.the-variants.{Nodes, Refused}
 use Rattle.reader.specs.Answers.{refused, meaning}
-use Rattle.reader.specs.Whole.{treeOf, Leaves, Tabled, Paired, Judged}
+use Rattle.reader.specs.Whole.{blockTree, Leaves, Tabled, Paired, Judged}
 
 -- ---- refusals
 
@@ -125,7 +122,7 @@ module _ {b : Bytes} {p : Parts} (h : Found b p) where
   pub in-ceiling : p .structure + p .«structure_size» ≤ blobCeiling
   in-ceiling = omega (arith, in-blob .small, in-blob .apart, in-blob .last, h .structure, h .structureSize)
 
-  pub block-is : blockOf (take (p .structure + p .«structure_size» - p .structure) (drop (p .structure) b)) (take (p .strings + p .«strings_size» - p .strings) (drop (p .strings) b)) (p .structure) ≡ blockIn b
+  pub block-is : blockOf (p .structure) (take (p .structure + p .«structure_size» - p .structure) (drop (p .structure) b)) (take (p .strings + p .«strings_size» - p .strings) (drop (p .strings) b)) ≡ blockIn b
   unfolding blockIn
   block-is =
       let e₁ : p .structure + p .«structure_size» - p .structure ≡ headerIn b .structureSize = omega (arith, h .structureSize) in
@@ -138,33 +135,33 @@ module _ {b : Bytes} {p : Parts} (h : Found b p) where
 -- ---- the walk, and then the pairs
 
 module _ {block : Block} {old new : List ℕ} {answer : ShapeAnswer} {count : ℕ} (s : Shaped block old new answer) (e : answer ≡ walk.Nodes count) (room : workWords ≤ length old) where
-  passed : (shapeJudged block ≡ passes) × (gives (length (treeOf block)) ≡ gives count)
-  passed = then-passes (shapeJudged block) (gives (length (treeOf block))) count (sym (s .judged) ∙ ap walkMeaning e)
+  passed : (shapeJudged block ≡ passes) × (gives (length (blockTree block)) ≡ gives count)
+  passed = then-passes (shapeJudged block) (gives (length (blockTree block))) count (sym (s .judged) ∙ ap walkMeaning e)
 
-  few-starts : length (startsOf (treeOf block)) ≤ workWords
-  few-starts = omega (arith, starts-length (treeOf block), nodes-few block (passed .0), table-fits)
+  few-starts : length (startsOf (blockTree block)) ≤ workWords
+  few-starts = omega (arith, starts-length (blockTree block), nodes-few block (passed .0), table-fits)
 
-  few-rows : length (rowsOf (treeOf block)) ≤ workWords
-  few-rows = omega (arith, rows-length (treeOf block), nodes-few block (passed .0), table-fits)
+  few-rows : length (rowsOf (blockTree block)) ≤ workWords
+  few-rows = omega (arith, rows-length (blockTree block), nodes-few block (passed .0), table-fits)
 
-  walked : new ≡ spaceOf (startsOf (treeOf block)) old
-  walked = subst (λ (a : ShapeAnswer). WalkLeaves a (startsOf (treeOf block)) old new) e (s .table)
+  walked : new ≡ spaceOf (startsOf (blockTree block)) old
+  walked = subst (λ (a : ShapeAnswer). WalkLeaves a (startsOf (blockTree block)) old new) e (s .table)
 
   pub tabled : Tabled block new count
   tabled = record {
     shape = passed .0;
     counted = (cc (passed .1));
-    room = omega (arith, ap length walked, space-length (startsOf (treeOf block)) old few-starts room);
-    table = walked ∙ sym (ap (spaceOf (startsOf (treeOf block))) walked ∙ space-space (startsOf (treeOf block)) (startsOf (treeOf block)) old few-starts few-starts);
+    room = omega (arith, ap length walked, space-length (startsOf (blockTree block)) old few-starts room);
+    table = walked ∙ sym (ap (spaceOf (startsOf (blockTree block))) walked ∙ space-space (startsOf (blockTree block)) (startsOf (blockTree block)) old few-starts few-starts);
   }
 
-  leaves-on : (a : Answer) (last : List ℕ) → Leaves a (rowsOf (treeOf block)) new last → Leaves a (rowsOf (treeOf block)) old last
-  leaves-on (Nodes n) last l = l ∙ ap (spaceOf (rowsOf (treeOf block))) walked ∙ space-space (rowsOf (treeOf block)) (startsOf (treeOf block)) old few-rows few-starts
-  leaves-on (Refused f) last l = l ∙ ap (spaceOf []) walked ∙ space-space [] (startsOf (treeOf block)) old (omega arith) few-starts
+  leaves-on : (a : Answer) (last : List ℕ) → Leaves a (rowsOf (blockTree block)) new last → Leaves a (rowsOf (blockTree block)) old last
+  leaves-on (Nodes n) last l = l ∙ ap (spaceOf (rowsOf (blockTree block))) walked ∙ space-space (rowsOf (blockTree block)) (startsOf (blockTree block)) old few-rows few-starts
+  leaves-on (Refused f) last l = l ∙ ap (spaceOf []) walked ∙ space-space [] (startsOf (blockTree block)) old (omega arith) few-starts
 
   pub paired : {a : Answer} {last : List ℕ} → Paired block new last a → Judged block old last a
   paired {a} {last} q = record {
-    judged = q .judged ∙ sym (passes-then (shapeJudged block) (doubledJudged (treeOf block) then wordsJudged (treeOf block) then sharedJudged (treeOf block) then gives (length (treeOf block))) (passed .0));
+    judged = q .judged ∙ sym (passes-then (shapeJudged block) (doubledJudged (blockTree block) then wordsJudged (blockTree block) then sharedJudged (blockTree block) then gives (length (blockTree block))) (passed .0));
     table = leaves-on a last (q .table);
   }
 
@@ -172,13 +169,13 @@ module _ {block : Block} {old new : List ℕ} {answer : ShapeAnswer} {count : �
 pub shape-refused : {block : Block} {old new : List ℕ} {answer : ShapeAnswer} {g : ShapeRefusal} (f : Refusal) → refused {A = ℕ} f ≡ shaped {A = ℕ} g → answer ≡ walk.Refused g
     → Shaped block old new answer → Judged block old new (Refused f)
 shape-refused {block} {old} {new} {answer} {g} f q e s =
-    let v : shapeJudged block ≡ refused f = then-refused f (shapeJudged block) (length (treeOf block)) (q ∙ ap walkMeaning (sym e) ∙ s .judged) in
+    let v : shapeJudged block ≡ refused f = then-refused f (shapeJudged block) (length (blockTree block)) (q ∙ ap walkMeaning (sym e) ∙ s .judged) in
     record {
       judged =
           sym
-          (ap (λ (o : Verdict). o then doubledJudged (treeOf block) then wordsJudged (treeOf block) then sharedJudged (treeOf block) then gives (length (treeOf block))) v
-          ∙ refused-then f (doubledJudged (treeOf block) then wordsJudged (treeOf block) then sharedJudged (treeOf block) then gives (length (treeOf block))));
-      table = subst (λ (a : ShapeAnswer). WalkLeaves a (startsOf (treeOf block)) old new) e (s .table);
+          (ap (λ (o : Verdict). o then doubledJudged (blockTree block) then wordsJudged (blockTree block) then sharedJudged (blockTree block) then gives (length (blockTree block))) v
+          ∙ refused-then f (doubledJudged (blockTree block) then wordsJudged (blockTree block) then sharedJudged (blockTree block) then gives (length (blockTree block))));
+      table = subst (λ (a : ShapeAnswer). WalkLeaves a (startsOf (blockTree block)) old new) e (s .table);
     }
 
 -- ---- the whole
@@ -244,7 +241,7 @@ module _ (b : Bytes) (work : List ℕ) {cleared : List ℕ} (room : workWords �
         let v : blobJudged b ≡ refused f = judged-is ∙ then-refused f tests (length (treeRead b)) (ap meaning (sym e) ∙ joined) in
         l
         ∙ space-clear new long
-        ∙ subst (λ (a : Answer). Leaves a (rowsOf (treeOf (blockIn b))) cleared new) e (j .table)
+        ∙ subst (λ (a : Answer). Leaves a (rowsOf (blockTree (blockIn b))) cleared new) e (j .table)
         ∙ sym clear-again
         ∙ is-clear
         ∙ sym (work-is b work room ∙ ap (λ (o : Verdict). spaceOf (tableOf o (treeRead b)) work) v ∙ ap (λ (ws : List ℕ). spaceOf ws work) (no-table f (treeRead b)))
@@ -255,7 +252,7 @@ module _ (b : Bytes) (work : List ℕ) {cleared : List ℕ} (room : workWords �
         let p = then-passes tests (gives (length (treeRead b))) count (sym joined ∙ ap meaning e) in
         let v : blobJudged b ≡ passes = judged-is ∙ p .0 in
         let few : length (rowsOf (treeRead b)) ≤ workWords = omega (arith, rows-length (treeRead b), read-table b v .few, table-fits) in
-        subst (λ (a : Answer). Leaves a (rowsOf (treeOf (blockIn b))) cleared new) e (j .table)
+        subst (λ (a : Answer). Leaves a (rowsOf (blockTree (blockIn b))) cleared new) e (j .table)
         ∙ ap (spaceOf (rowsOf (treeRead b))) is-clear
         ∙ space-space (rowsOf (treeRead b)) [] work few (omega arith)
         ∙ sym (work-is b work room ∙ ap (λ (o : Verdict). spaceOf (tableOf o (treeRead b)) work) v)

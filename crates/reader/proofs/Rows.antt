@@ -18,6 +18,7 @@ use Rattle.rules.specs.Tree.{Node, Tree, phandleProp, sharedFrom, sharedJudged}
 use Rattle.rules.specs.Reader.{rowOf, rowsOf, spaceOf}
 use Rattle.rules.specs.Laws.Tests.{by-test, or-nothing, or-comm, eqb-sym}
 use Rattle.rules.specs.Laws.Reader.{startOf, startsOf, starts-length, space-length, space-get, space-set, space-space}
+use Rattle.rules.specs.Laws.Constants.{NODE-WORDS}
 use Rattle.passes.specs.Rows.{rowHas, rowBelow, rowGiven, rowsFrom}
 
 -- ---- two words of a row are written
@@ -35,30 +36,30 @@ row-filled before after m a b v e =
 
 -- ---- what rows say, after two words behind them are written
 
-has-same : (w : List ℕ) (j m v a b x y : ℕ) → j < m → 4 * m ≤ a → 4 * m ≤ b → rowHas (set (set w a x) b y) j v ≡ rowHas w j v
+has-same : (w : List ℕ) (j m v a b x y : ℕ) → j < m → NODE-WORDS * m ≤ a → NODE-WORDS * m ≤ b → rowHas (set (set w a x) b y) j v ≡ rowHas w j v
 unfolding rowHas nodeWords
 has-same w j m v a b x y h p q =
     let l : length (set (set w a x) b y) ≡ length w = length-set (set w a x) b y ∙ length-set w a x in
-    let g : (k : ℕ) → k < 4 * m → getD (set (set w a x) b y) k 0 ≡ getD w k 0 = λ k r.
+    let g : (k : ℕ) → k < NODE-WORDS * m → getD (set (set w a x) b y) k 0 ≡ getD w k 0 = λ k r.
     getD-set-other (set w a x) b k y 0 (λ e. omega arith) ∙ getD-set-other w a k x 0 (λ e. omega arith) in
-    rw (l, g (4 * j + 2) (omega arith), g (4 * j + 3) (omega arith))
+    rw (l, g (NODE-WORDS * j + 2) (omega arith), g (NODE-WORDS * j + 3) (omega arith))
 
-below-same : (w : List ℕ) (i m v a b x y : ℕ) → i ≤ m → 4 * m ≤ a → 4 * m ≤ b → rowBelow (set (set w a x) b y) i v ≡ rowBelow w i v
+below-same : (w : List ℕ) (i m v a b x y : ℕ) → i ≤ m → NODE-WORDS * m ≤ a → NODE-WORDS * m ≤ b → rowBelow (set (set w a x) b y) i v ≡ rowBelow w i v
 unfolding rowBelow
 below-same w zero m v a b x y h p q = refl
 below-same w (suc i) m v a b x y h p q =
     ap₂ (λ (s t : Bool). s || t) (below-same w i m v a b x y (omega arith) p q) (has-same w i m v a b x y (omega arith) p q)
 
 -- a row without a phandle, and with one
-has-none : (w : List ℕ) (i v : ℕ) → 4 * i + 4 ≤ length w → getD w (4 * i + 2) 0 ≡ 0 → rowHas w i v ≡ false
+has-none : (w : List ℕ) (i v : ℕ) → NODE-WORDS * i + NODE-WORDS ≤ length w → getD w (NODE-WORDS * i + 2) 0 ≡ 0 → rowHas w i v ≡ false
 unfolding rowHas nodeWords
 has-none w i v h e = rw (lt-ltb i (length w / 4) (omega arith), e)
 
-has-some : (w : List ℕ) (i u v : ℕ) → 4 * i + 4 ≤ length w → getD w (4 * i + 2) 0 ≡ 1 → getD w (4 * i + 3) 0 ≡ u → rowHas w i v ≡ eqb u v
+has-some : (w : List ℕ) (i u v : ℕ) → NODE-WORDS * i + NODE-WORDS ≤ length w → getD w (NODE-WORDS * i + 2) 0 ≡ 1 → getD w (NODE-WORDS * i + 3) 0 ≡ u → rowHas w i v ≡ eqb u v
 unfolding rowHas nodeWords
 has-some w i u v h e f = rw (lt-ltb i (length w / 4) (omega arith), e, f)
 
-given-is : (w : List ℕ) (i v : ℕ) → 4 * i + 4 ≤ length w → rowGiven w i v ≡ set (set w (4 * i + 2) 1) (4 * i + 3) v
+given-is : (w : List ℕ) (i v : ℕ) → NODE-WORDS * i + NODE-WORDS ≤ length w → rowGiven w i v ≡ set (set w (NODE-WORDS * i + 2) 1) (NODE-WORDS * i + 3) v
 unfolding rowGiven nodeWords
 given-is w i v h = rw (lt-ltb i (length w / 4) (omega arith))
 
@@ -81,8 +82,8 @@ Rest d words (refuses number place) x = spaceOf [] x ≡ spaceOf [] d
 -- the rows before i are done, and say which phandles have been seen
 pub record Rowed (d w done : List ℕ) (i : ℕ) (seen : List ℕ) (ns : List Node) : Type 0 where
   pub here : w ≡ spaceOf (done ++ startsOf ns) d
-  pub long : length done ≡ 4 * i
-  pub fits : 4 * (i + length ns) ≤ workWords
+  pub long : length done ≡ NODE-WORDS * i
+  pub fits : NODE-WORDS * (i + length ns) ≤ workWords
   pub told : (v : ℕ) → rowBelow w i v ≡ oneOf v seen
 
 abbrev Result : (d w done : List ℕ) (i : ℕ) (seen : List ℕ) (ns : List Node) → Type 0
@@ -96,22 +97,22 @@ module _ (d : List ℕ) (room : workWords ≤ length d) where
     short : length (done ++ startsOf (n ∷ ns)) ≤ workWords
     short = omega (arith, length-append done (startsOf (n ∷ ns)), starts-length (n ∷ ns), r .long, r .fits)
 
-    long-words : length words ≡ 4 * (i + suc (length ns))
+    long-words : length words ≡ NODE-WORDS * (i + suc (length ns))
     long-words = omega (arith, length-append done (startsOf (n ∷ ns)), starts-length (n ∷ ns), r .long)
 
     as-long : length w ≡ length d
     as-long = ap length (r .here) ∙ space-length (done ++ startsOf (n ∷ ns)) d short room
 
-    inside : 4 * i + 4 ≤ length w
+    inside : NODE-WORDS * i + NODE-WORDS ≤ length w
     inside = omega (arith, as-long, r .fits)
 
     -- the row as the walk left it
-    read-row : (k : ℕ) → k < 4 → getD w (4 * i + k) 0 ≡ getD (startOf (n .place) (n .parent)) k 0
+    read-row : (k : ℕ) → k < NODE-WORDS → getD w (NODE-WORDS * i + k) 0 ≡ getD (startOf (n .place) (n .parent)) k 0
     unfolding startsOf
     read-row k h =
-        let e : 4 * i + k ≡ length done + k = omega (arith, r .long) in
-        ap (λ (x : List ℕ). getD x (4 * i + k) 0) (r .here)
-        ∙ space-get (done ++ startsOf (n ∷ ns)) d (4 * i + k) (omega (arith, r .fits)) short
+        let e : NODE-WORDS * i + k ≡ length done + k = omega (arith, r .long) in
+        ap (λ (x : List ℕ). getD x (NODE-WORDS * i + k) 0) (r .here)
+        ∙ space-get (done ++ startsOf (n ∷ ns)) d (NODE-WORDS * i + k) (omega (arith, r .fits)) short
         ∙ ap (λ (j : ℕ). getD (done ++ startsOf (n ∷ ns)) j 0) e
         ∙ getD-append-add done (startsOf (n ∷ ns)) k 0
         ∙ List·getD-append (startOf (n .place) (n .parent)) (startsOf ns) 0 k h
@@ -135,25 +136,25 @@ module _ (d : List ℕ) (room : workWords ≤ length d) where
     on-some p e =
         let u : ℕ = wordAt (p .value) 0 in
         let row = row-some n p e in
-        let w′ : List ℕ = set (set w (4 * i + 2) 1) (4 * i + 3) u in
-        let l : length w′ ≡ length w = length-set (set w (4 * i + 2) 1) (4 * i + 3) u ∙ length-set w (4 * i + 2) 1 in
-        let marked : getD w′ (4 * i + 2) 0 ≡ 1 =
-        getD-set-other (set w (4 * i + 2) 1) (4 * i + 3) (4 * i + 2) u 0 (λ k. omega arith) ∙ getD-set-same w (4 * i + 2) 1 0 (omega (arith, inside)) in
-        let given : getD w′ (4 * i + 3) 0 ≡ u = getD-set-same (set w (4 * i + 2) 1) (4 * i + 3) u 0 (omega (arith, inside, length-set w (4 * i + 2) 1)) in
+        let w′ : List ℕ = set (set w (NODE-WORDS * i + 2) 1) (NODE-WORDS * i + 3) u in
+        let l : length w′ ≡ length w = length-set (set w (NODE-WORDS * i + 2) 1) (NODE-WORDS * i + 3) u ∙ length-set w (NODE-WORDS * i + 2) 1 in
+        let marked : getD w′ (NODE-WORDS * i + 2) 0 ≡ 1 =
+        getD-set-other (set w (NODE-WORDS * i + 2) 1) (NODE-WORDS * i + 3) (NODE-WORDS * i + 2) u 0 (λ k. omega arith) ∙ getD-set-same w (NODE-WORDS * i + 2) 1 0 (omega (arith, inside)) in
+        let given : getD w′ (NODE-WORDS * i + 3) 0 ≡ u = getD-set-same (set w (NODE-WORDS * i + 2) 1) (NODE-WORDS * i + 3) u 0 (omega (arith, inside, length-set w (NODE-WORDS * i + 2) 1)) in
         rw (given-is w i u inside)
         (record {
           here =
-              ap (λ (x : List ℕ). set (set x (4 * i + 2) 1) (4 * i + 3) u) (r .here)
-              ∙ ap (λ (x : List ℕ). set x (4 * i + 3) u) (space-set words d (4 * i + 2) 1 (omega (arith, long-words)) short)
-              ∙ space-set (set words (4 * i + 2) 1) d (4 * i + 3) u (omega (arith, long-words, length-set words (4 * i + 2) 1)) (omega (arith, short, length-set words (4 * i + 2) 1))
+              ap (λ (x : List ℕ). set (set x (NODE-WORDS * i + 2) 1) (NODE-WORDS * i + 3) u) (r .here)
+              ∙ ap (λ (x : List ℕ). set x (NODE-WORDS * i + 3) u) (space-set words d (NODE-WORDS * i + 2) 1 (omega (arith, long-words)) short)
+              ∙ space-set (set words (NODE-WORDS * i + 2) 1) d (NODE-WORDS * i + 3) u (omega (arith, long-words, length-set words (NODE-WORDS * i + 2) 1)) (omega (arith, short, length-set words (NODE-WORDS * i + 2) 1))
               ∙ ap (λ (x : List ℕ). spaceOf x d)
-              (row-filled done (startsOf ns) (4 * i) (n .place) (n .parent) u (sym (r .long))
+              (row-filled done (startsOf ns) (NODE-WORDS * i) (n .place) (n .parent) u (sym (r .long))
               ∙ ap (λ (x : List ℕ). done ++ (x ++ startsOf ns)) (sym row)
               ∙ sym (append-assoc done (rowOf n) (startsOf ns)));
           long = omega (arith, length-append done (rowOf n), r .long, ap length row);
           fits = omega (arith, r .fits);
           told = λ v.
-              ap₂ (λ (s t : Bool). s || t) (below-same w i i v (4 * i + 2) (4 * i + 3) 1 u (omega arith) (omega arith) (omega arith) ∙ r .told v)
+              ap₂ (λ (s t : Bool). s || t) (below-same w i i v (NODE-WORDS * i + 2) (NODE-WORDS * i + 3) 1 u (omega arith) (omega arith) (omega arith) ∙ r .told v)
               (has-some w′ i u v (omega (arith, l, inside)) marked given ∙ eqb-sym u v)
               ∙ or-comm (oneOf v seen) (eqb v u);
         })
@@ -179,7 +180,7 @@ module _ (d : List ℕ) (room : workWords ≤ length d) where
       node-shared w done i seen n ns r (λ w′ done′ seen′ r′. rows-shared w′ done′ (suc i) seen′ ns r′) (phandleProp (n .props)) refl
 
   -- THE TABLE IS COMPLETE
-  pub shared-table : (t : Tree) (w : List ℕ) → 4 * length t ≤ workWords → w ≡ spaceOf (startsOf t) d
+  pub shared-table : (t : Tree) (w : List ℕ) → NODE-WORDS * length t ≤ workWords → w ≡ spaceOf (startsOf t) d
       → (rowsFrom w 0 t .0 ≡ sharedJudged t) × Rest d (rowsOf t) (rowsFrom w 0 t .0) (rowsFrom w 0 t .1)
   unfolding sharedJudged rowBelow oneOf
   shared-table t w h e = rows-shared w [] 0 [] t (record { here = e; long = refl; fits = omega arith; told = λ v. refl })

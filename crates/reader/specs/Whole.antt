@@ -14,8 +14,8 @@ use Rattle.reader.specs.declared.Answer.{Answer}
 use Rattle.reader.specs.declared.Answer.the-variants.{Nodes, Refused}
 use Rattle.reader.specs.Answers.{meaning}
 
-abbrev pub treeOf : Block → Tree
-treeOf b = nodesOf (eventsIn b)
+abbrev pub blockTree : Block → Tree
+blockTree b = nodesOf (eventsIn b)
 
 -- What is left in the work space: the words, or nothing that matters. Beyond the work space all stays.
 abbrev pub Leaves : Answer → (words old new : List ℕ) → Type 0
@@ -25,17 +25,17 @@ Leaves (Refused refusal) words old new = spaceOf [] new ≡ spaceOf [] old
 -- the shape has passed, and the work space holds what the walk left
 pub record Tabled (b : Block) (work : List ℕ) (count : ℕ) : Type 0 where
   pub shape : shapeJudged b ≡ passes
-  pub counted : count ≡ length (treeOf b)
+  pub counted : count ≡ length (blockTree b)
   pub room : workWords ≤ length work
-  pub table : work ≡ spaceOf (startsOf (treeOf b)) work
+  pub table : work ≡ spaceOf (startsOf (blockTree b)) work
 
 -- 10 to 12, and the table
 pub record Paired (b : Block) (old new : List ℕ) (answer : Answer) : Type 0 where
-  pub judged : meaning answer ≡ (doubledJudged (treeOf b) then wordsJudged (treeOf b) then sharedJudged (treeOf b) then gives (length (treeOf b)))
-  pub table : Leaves answer (rowsOf (treeOf b)) old new
+  pub judged : meaning answer ≡ (doubledJudged (blockTree b) then wordsJudged (blockTree b) then sharedJudged (blockTree b) then gives (length (blockTree b)))
+  pub table : Leaves answer (rowsOf (blockTree b)) old new
 
 -- 6 to 12, and the table
 pub record Judged (b : Block) (old new : List ℕ) (answer : Answer) : Type 0 where
   pub judged : meaning answer
-      ≡ (shapeJudged b then doubledJudged (treeOf b) then wordsJudged (treeOf b) then sharedJudged (treeOf b) then gives (length (treeOf b)))
-  pub table : Leaves answer (rowsOf (treeOf b)) old new
+      ≡ (shapeJudged b then doubledJudged (blockTree b) then wordsJudged (blockTree b) then sharedJudged (blockTree b) then gives (length (blockTree b)))
+  pub table : Leaves answer (rowsOf (blockTree b)) old new

@@ -3,11 +3,10 @@
 use crate::Answer;
 use crate::Refusal;
 use doubled::Found;
-ghost use mathlib.Core.Path.{_≡_};
 ghost use Prim.Native.Nat.{_+_, _≤_};
 ghost use lib.ListN.{length};
-ghost use Rattle.rules.specs.Ceilings.{blobCeiling, workWords};
-ghost use Rattle.doubled.specs.Passes.{blockOf};
+ghost use Rattle.rules.specs.Ceilings.{blobCeiling};
+ghost use Rattle.rules.specs.Blob.{blockOf};
 ghost use Rattle.reader.specs.Whole.{Tabled, Paired};
 
 // Judges refusals 10 to 12 of the structure block that stands at `place` of the blob and has `count` nodes: that count, or the
@@ -20,8 +19,8 @@ pub fn judge(
     work: &mut [u32],
 ) -> Answer
     requires { ⌜ place + length (now structure) ≤ blobCeiling ⌝ }
-    requires { ⌜ Tabled (blockOf (now structure) (now strings) place) (now work) count ⌝ }
-    ensures { λ r. ⌜ Paired (blockOf (now (structure .entry)) (now (strings .entry)) place) (now (work .entry)) (now (work .exit)) r ⌝ }
+    requires { ⌜ Tabled (blockOf place (now structure) (now strings)) (now work) count ⌝ }
+    ensures { λ r. ⌜ Paired (blockOf place (now (structure .entry)) (now (strings .entry))) (now (work .entry)) (now (work .exit)) r ⌝ }
 {
     if let Found::At(at) = doubled::doubled(structure, strings, place, work) {
         return Answer::Refused(Refusal::Doubled { at: place + at });

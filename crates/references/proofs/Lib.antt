@@ -3,3 +3,4 @@ pub mod Names
 pub mod Tables
 pub mod Counts
 pub mod Scans
+pub mod Unique

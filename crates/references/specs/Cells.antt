@@ -12,10 +12,6 @@ use Rattle.references.specs.declared.cells.Turn.{Turn}
 use Rattle.references.specs.declared.cells.Turn.the-variants.{Value, On, Done}
 use Rattle.references.specs.Rows.{isNamed}
 
--- a structure and its strings, and where the structure stands in the blob
-abbrev pub blockOf : (place : ℕ) (structure strings : Bytes) → Block
-blockOf place structure strings = record { place = place; structure = structure; strings = strings }
-
 abbrev pub onProp : Bool → ℕ → Turn
 onProp found v = if found then Value v else On
 

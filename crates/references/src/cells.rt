@@ -5,10 +5,11 @@ use rules::Kind;
 use rules::Token;
 ghost use mathlib.Core.Path.{_≡_};
 ghost use Prim.Native.Nat.{ℕ};
+ghost use Rattle.rules.specs.Blob.{blockOf};
 ghost use Rattle.rules.specs.Events.{stringAt};
 ghost use Rattle.rules.specs.Laws.Tabled.{propsAt, countNamed};
 ghost use Rattle.references.specs.Rows.{meaning};
-ghost use Rattle.references.specs.Cells.{onKind, blockOf};
+ghost use Rattle.references.specs.Cells.{onKind};
 
 // What a token does to the search.
 pub enum Turn {

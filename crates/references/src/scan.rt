@@ -6,9 +6,9 @@ use crate::table::cell;
 use crate::table::node_of;
 ghost use mathlib.Core.Path.{_≡_};
 ghost use Prim.Native.Nat.{_<_};
+ghost use Rattle.rules.specs.Blob.{blockOf};
 ghost use Rattle.rules.specs.Laws.Tabled.{propsAt, beginOf, countNamed};
 ghost use Rattle.references.specs.Rows.{meaning};
-ghost use Rattle.references.specs.Cells.{blockOf};
 ghost use Rattle.references.specs.Scan.{refersAt, Scanned};
 
 // What a scan comes to.

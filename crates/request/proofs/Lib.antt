@@ -1,3 +1,4 @@
 -- What the proofs of the request text share.
 pub mod Turns
 pub mod Entered
+pub mod Unique

@@ -1,1 +1,2 @@
+-- What the loops over reservations share.
 pub mod Entries

@@ -87,6 +87,10 @@ pub record Block : Type 0 where
   pub structure : Bytes
   pub strings : Bytes
 
+-- from its parts
+abbrev pub blockOf : (place : ℕ) (structure strings : Bytes) → Block
+blockOf place structure strings = record { place = place; structure = structure; strings = strings }
+
 unfoldable pub blockIn : Bytes → Block
 blockIn b =
     let h : Header = headerIn b in

@@ -1,5 +1,6 @@
 -- The laws of the definitions, which the proofs of every crate cite.
 pub mod Tests
+pub mod Constants
 pub mod Octets
 pub mod Lists
 pub mod Order

@@ -1,3 +1,4 @@
 -- What the proofs of the walk share.
 pub mod Steps
 pub mod Walks
+pub mod Unique

@@ -1,9 +1,9 @@
 -- A turn of the walk's loop, on plain values: b is the block, d the work space as the loop found it, `work` as it stands, `at`
 -- and w how far the walk has come.
 use mathlib.Core.Path.{_≡_, refl, sym, ap, _∙_, subst}
-use mathlib.Core.Bool.{Bool, true, false}
+use mathlib.Core.Bool.{false}
 use mathlib.Core.List.{List, [], _∷_, _++_, append-assoc, append-nil}
-use Prim.Native.Nat.{ℕ, zero, suc, _+_, _-_, _*_, _≤_, _<_}
+use Prim.Native.Nat.{ℕ, suc, _+_, _-_, _*_, _≤_, _<_}
 use native.Mathlib.Omega.{arith}
 use native.Mathlib.Numerals.{add-one}
 use lib.Dec.{eqb}
@@ -12,11 +12,10 @@ use lib.Seq.{getD-append-add}
 use types.Run.{OneOf, miss}
 use denote.Enum.Declared.{tagOf}
 use Rattle.rules.specs.Ceilings.{workWords, nodeCeiling, openCeiling}
-use Rattle.rules.specs.Octets.{Bytes}
-use Rattle.rules.specs.Outcome.{Outcome, Verdict, gives, _then_}
-use Rattle.rules.specs.Blob.{Block}
+use Rattle.rules.specs.Outcome.{Verdict, gives, _then_}
+use Rattle.rules.specs.Blob.{Block, blockOf}
 use Rattle.rules.specs.Tokens.{tokenAt}
-use Rattle.rules.specs.Events.{Event, Step, after, onToken, judge, shapeJudged, saying, eventsIn}
+use Rattle.rules.specs.Events.{Event, after, onToken, judge, shapeJudged, saying, eventsIn}
 use Rattle.rules.specs.Events as events
 use Rattle.rules.specs.Tree.{top, rest, nodesFrom, nodesOf}
 use Rattle.rules.specs.Reader.{spaceOf}
@@ -28,31 +27,32 @@ use Rattle.rules.specs.declared.Token.{Token}
 use Rattle.rules.specs.declared.Token.the-variants.{Item, End, Cut}
 use Rattle.rules.specs.declared.Kind.{Kind}
 use Rattle.rules.specs.declared.Kind.the-variants.{Begin, EndNode, Prop, Nop}
+use Rattle.rules.specs.Laws.Constants.{NODE-WORDS}
 use Rattle.shape.specs.declared.Refusal.{Refusal}
 use Rattle.shape.specs.declared.Answer.{Answer}
 use Rattle.shape.specs.declared.Answer.the-variants.{Nodes, Refused}
 use Rattle.shape.specs.declared.Walk.{Walk}
 use Rattle.shape.specs.declared.Turn.{Turn}
 use Rattle.shape.specs.declared.Turn.the-variants.{Opens, Closes, Stays, Stops}
-use Rattle.shape.specs.Answers.{refused, meaning}
-use Rattle.shape.specs.Shape.{blockOf, Stands, openedBy, closedBy, follows, Only, Room, turnOf, DoesItem, Ends, Leaves, Shaped}
+use Rattle.shape.specs.Answers.{meaning}
+use Rattle.shape.specs.Shape.{Stands, openedBy, closedBy, follows, Only, Room, turnOf, DoesItem, Ends, Leaves, Shaped}
 use Rattle.shape.proofs.Steps.{refused-then}
 
 -- ---- the open nodes, from the innermost up: each one's row has its parent's number
 
 abbrev pub Climbs : (words : List ℕ) (count : ℕ) → List ℕ → Type 0
 Climbs words count [] = Unit
-Climbs words count (i ∷ is) = (i < count) × (getD words (4 * i + 1) 0 ≡ top is) × Climbs words count is
+Climbs words count (i ∷ is) = (i < count) × (getD words (NODE-WORDS * i + 1) 0 ≡ top is) × Climbs words count is
 
-climbs-more : (words more : List ℕ) (count : ℕ) (stack : List ℕ) → length words ≡ 4 * count → Climbs words count stack → Climbs (words ++ more) (count + 1) stack
+climbs-more : (words more : List ℕ) (count : ℕ) (stack : List ℕ) → length words ≡ NODE-WORDS * count → Climbs words count stack → Climbs (words ++ more) (count + 1) stack
 climbs-more words more count [] l h = tt
 climbs-more words more count (i ∷ is) l h =
-    (omega (arith, h .0), List·getD-append words more 0 (4 * i + 1) (omega (arith, h .0)) ∙ h .1, climbs-more words more count is l (h .2))
+    (omega (arith, h .0), List·getD-append words more 0 (NODE-WORDS * i + 1) (omega (arith, h .0)) ∙ h .1, climbs-more words more count is l (h .2))
 
-climbs-push : (words : List ℕ) (count place : ℕ) (stack : List ℕ) → length words ≡ 4 * count → Climbs words count stack
+climbs-push : (words : List ℕ) (count place : ℕ) (stack : List ℕ) → length words ≡ NODE-WORDS * count → Climbs words count stack
     → Climbs (words ++ startOf place (top stack)) (count + 1) (count ∷ stack)
 climbs-push words count place stack l h =
-    let e : 4 * count + 1 ≡ length words + 1 = omega arith in (
+    let e : NODE-WORDS * count + 1 ≡ length words + 1 = omega arith in (
       omega arith,
       ap (λ (k : ℕ). getD (words ++ startOf place (top stack)) k 0) e ∙ getD-append-add words (startOf place (top stack)) 1 0,
       climbs-more words (startOf place (top stack)) count stack l h,
@@ -63,7 +63,7 @@ top-small words count [] h = omega arith
 top-small words count (i ∷ is) h = omega (arith, h .0)
 
 top-open : (words : List ℕ) (count : ℕ) (stack : List ℕ) → Climbs words count stack → 0 < length stack
-    → (top stack < count) × (getD words (4 * top stack + 1) 0 ≡ top (rest stack)) × Climbs words count (rest stack) × (length (rest stack) ≡ length stack - 1)
+    → (top stack < count) × (getD words (NODE-WORDS * top stack + 1) 0 ≡ top (rest stack)) × Climbs words count (rest stack) × (length (rest stack) ≡ length stack - 1)
 top-open words count [] h p = absurd (let z : ⊥ = omega arith in z)
 top-open words count (i ∷ is) h p = (h .0, h .1, h .2, omega arith)
 
@@ -80,7 +80,7 @@ pub record Inv (b : Block) (d work : List ℕ) (at : ℕ) (w : Walk) : Type 0 wh
   pub judged : judgedAt b (walked w stack) at ≡ shapeJudged b
   pub rows : words ++ startsOf (nodesFrom stack (w .count) (eventsAt b at)) ≡ startsOf (nodesOf (eventsIn b))
   pub here : work ≡ spaceOf words d
-  pub long : length words ≡ 4 * w .count
+  pub long : length words ≡ NODE-WORDS * w .count
   pub few : w .count ≤ nodeCeiling
   pub depth : w .depth ≡ length stack
   pub node : w .node ≡ top stack
@@ -104,7 +104,7 @@ starts b d e = record {
 
 -- what an item does depends neither on the block's place nor on the next token's
 same-item : (b : Block) (place : ℕ) (v : events.Walk) (at : ℕ) (kind : Kind) (next : ℕ)
-    → onToken (blockOf (b .structure) (b .strings) place) v at (Item kind 0) ≡ onToken b v at (Item kind next)
+    → onToken (blockOf place (b .structure) (b .strings)) v at (Item kind 0) ≡ onToken b v at (Item kind next)
 same-item b place v at (Begin len) next = refl
 same-item b place v at EndNode next = refl
 same-item b place v at (Prop len name value) next = refl
@@ -186,7 +186,7 @@ module _ {b : Block} {d work : List ℕ} {at : ℕ} {w : Walk} (i : Inv b d work
     closes-node e =
         omega (arith, i .node, i .few, top-open (i .words) (w .count) (i .stack) (i .climbs) (omega (arith, closes-room e, i .depth)) .0)
 
-    pub at-open : turn ≡ Opens → Inv b d (set (set work (4 * w .count) (b .place + at)) (4 * w .count + 1) (w .node)) next (openedBy w)
+    pub at-open : turn ≡ Opens → Inv b d (set (set work (NODE-WORDS * w .count) (b .place + at)) (NODE-WORDS * w .count + 1) (w .node)) next (openedBy w)
     at-open e =
         let n : ℕ = w .count in
         let row : List ℕ = startOf (b .place + at) (top (i .stack)) in
@@ -207,8 +207,8 @@ module _ {b : Block} {d work : List ℕ} {at : ℕ} {w : Walk} (i : Inv b d work
               (sym (rows-opens b at next (i .stack) n (eventsAt b next) kind o) ∙ ap (λ (es : List Event). startsOf (nodesFrom (i .stack) n es)) (sym events-on))
               ∙ i .rows;
           here =
-              ap (λ (x : List ℕ). set (set x (4 * n) (b .place + at)) (4 * n + 1) (w .node)) (i .here)
-              ∙ space-row (i .words) d (4 * n) (b .place + at) (w .node) (sym (i .long)) (omega (arith, r .1, table-fits))
+              ap (λ (x : List ℕ). set (set x (NODE-WORDS * n) (b .place + at)) (NODE-WORDS * n + 1) (w .node)) (i .here)
+              ∙ space-row (i .words) d (NODE-WORDS * n) (b .place + at) (w .node) (sym (i .long)) (omega (arith, r .1, table-fits))
               ∙ ap (λ (p : ℕ). spaceOf (i .words ++ startOf (b .place + at) p) d) (i .node);
           long = omega (arith, length-append (i .words) row, i .long);
           few = omega (arith, r .1);
@@ -217,7 +217,7 @@ module _ {b : Block} {d work : List ℕ} {at : ℕ} {w : Walk} (i : Inv b d work
           climbs = climbs-push (i .words) n (b .place + at) (i .stack) (i .long) (i .climbs);
         }
 
-    pub at-close : turn ≡ Closes → Inv b d work next (closedBy w (getD work (4 * w .node + 1) 0))
+    pub at-close : turn ≡ Closes → Inv b d work next (closedBy w (getD work (NODE-WORDS * w .node + 1) 0))
     at-close e =
         let p = closes-room e in
         let c = top-open (i .words) (w .count) (i .stack) (i .climbs) (omega (arith, p, i .depth)) in
@@ -237,9 +237,9 @@ module _ {b : Block} {d work : List ℕ} {at : ℕ} {w : Walk} (i : Inv b d work
           few = i .few;
           depth = omega (arith, i .depth, c .3);
           node =
-              ap (λ (x : List ℕ). getD x (4 * w .node + 1) 0) (i .here)
-              ∙ space-get (i .words) d (4 * w .node + 1) (omega (arith, closes-node e, table-fits)) short
-              ∙ ap (λ (k : ℕ). getD (i .words) (4 * k + 1) 0) (i .node)
+              ap (λ (x : List ℕ). getD x (NODE-WORDS * w .node + 1) 0) (i .here)
+              ∙ space-get (i .words) d (NODE-WORDS * w .node + 1) (omega (arith, closes-node e, table-fits)) short
+              ∙ ap (λ (k : ℕ). getD (i .words) (NODE-WORDS * k + 1) 0) (i .node)
               ∙ c .1;
           climbs = c .2;
         }

@@ -7,10 +7,10 @@ use lib.ListN.{length}
 use Rattle.rules.specs.Ceilings.{openCeiling, nodeCeiling}
 use Rattle.rules.specs.Outcome.{Verdict, gives, _then_}
 use Rattle.rules.specs.Octets.{Bytes}
-use Rattle.rules.specs.Blob.{Block}
+use Rattle.rules.specs.Blob.{Block, blockOf}
 use Rattle.rules.specs.Events.{Step, stop, after, ending, onToken, shapeJudged, eventsIn}
 use Rattle.rules.specs.Events as events
-use Rattle.rules.specs.Tree.{Tree, top, rest, nodesOf}
+use Rattle.rules.specs.Tree.{top, rest, nodesOf}
 use Rattle.rules.specs.Reader.{spaceOf}
 use Rattle.rules.specs.Laws.Reader.{startsOf}
 use Rattle.rules.specs.declared.Token.{Token}
@@ -23,10 +23,6 @@ use Rattle.shape.specs.declared.Walk.{Walk}
 use Rattle.shape.specs.declared.Turn.{Turn}
 use Rattle.shape.specs.declared.Turn.the-variants.{Opens, Closes, Stays, Stops}
 use Rattle.shape.specs.Answers.{refused, meaning}
-
--- a structure and its strings, and where the structure stands in the blob
-abbrev pub blockOf : (s strings : Bytes) (place : ℕ) → Block
-blockOf s strings place = record { place = place; structure = s; strings = strings }
 
 -- the definition's walk stands where the code's does
 pub record Stands (w : Walk) (v : events.Walk) : Type 0 where
@@ -79,7 +75,7 @@ turnOf Nop = Stays
 -- what the code needs to know of a kind is not where the next token stands
 abbrev pub DoesItem : Walk → (place : ℕ) (structure strings : Bytes) (at : ℕ) → Kind → Turn → Type 0
 DoesItem w place structure strings at kind turn =
-    Does w place (turnOf kind) (λ (v : events.Walk). onToken (blockOf structure strings place) v at (Item kind 0)) turn
+    Does w place (turnOf kind) (λ (v : events.Walk). onToken (blockOf place structure strings) v at (Item kind 0)) turn
 
 -- where no item stands
 abbrev pub lastly : events.Walk → (last : Bool) → Token → Step

@@ -5,14 +5,15 @@ use rules::NODE_CEILING;
 use rules::NODE_WORDS;
 use rules::OPEN_CEILING;
 use rules::Token;
-ghost use mathlib.Core.Path.{_≡_};
 ghost use mathlib.Core.List.{[]};
+ghost use mathlib.Core.Path.{_≡_};
 ghost use Prim.Native.Nat.{_+_, _≤_, _<_};
 ghost use lib.ListN.{length};
 ghost use Rattle.rules.specs.Ceilings.{blobCeiling, openCeiling, nodeCeiling, workWords};
+ghost use Rattle.rules.specs.Blob.{blockOf};
 ghost use Rattle.rules.specs.Events.{opening, closing, holding, propertyReads};
 ghost use Rattle.rules.specs.Reader.{spaceOf};
-ghost use Rattle.shape.specs.Shape.{blockOf, openedBy, closedBy, Does, DoesItem, Ends, Shaped};
+ghost use Rattle.shape.specs.Shape.{openedBy, closedBy, Does, DoesItem, Ends, Shaped};
 
 // Why a structure block is refused. `at` is the blob offset of the first offending token.
 pub enum Refusal {
@@ -187,7 +188,7 @@ pub fn judge(structure: &[u8], strings: &[u8], place: usize, work: &mut [u32]) -
     requires { ⌜ place + length (now structure) ≤ blobCeiling ⌝ }
     requires { ⌜ workWords ≤ length (now work) ⌝ }
     requires { ⌜ now work ≡ spaceOf [] (now work) ⌝ }
-    ensures { λ r. ⌜ Shaped (blockOf (now (structure .entry)) (now (strings .entry)) place) (now (work .entry)) (now (work .exit)) r ⌝ }
+    ensures { λ r. ⌜ Shaped (blockOf place (now (structure .entry)) (now (strings .entry))) (now (work .entry)) (now (work .exit)) r ⌝ }
 {
     let mut at = 0;
     let mut w = Walk {

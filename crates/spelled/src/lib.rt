@@ -8,7 +8,7 @@ ghost use Prim.Native.Nat.{_≤_};
 ghost use lib.ListN.{length};
 ghost use Rattle.rules.specs.Ceilings.{blobCeiling, nodeCeiling, workWords};
 ghost use Rattle.rules.specs.Octets.{Bytes, lay};
-ghost use Rattle.paths.specs.Trees.{treeOf};
+ghost use Rattle.rules.specs.Laws.Tabled.{treeOf};
 ghost use Rattle.spelled.specs.Lists.{listBytes};
 
 // How many bytes the list of the first n nodes listed has. The ceilings keep the sum a usize.

@@ -1,1 +1,2 @@
+-- What is told of an answer: definitions that contracts cite.
 pub mod Told

@@ -1,17 +1,16 @@
 -- A property whose tests were judged by its size: what is known where they pass, and what its call answers and leaves.
-use mathlib.Core.Path.{_≡_, refl, sym, ap, _∙_}
+use mathlib.Core.Path.{_≡_, sym, ap, _∙_}
 use mathlib.Core.Bool.{Bool, not}
 use mathlib.Core.List.{[], _∷_}
 use Prim.Native.Nat.{ℕ, _+_, _≤_}
 use native.Mathlib.Omega.{arith}
-use lib.Dec.{eqb, ltb}
+use lib.Dec.{eqb}
 use lib.ListN.{length}
-use lib.Seq.{length-take-le}
 use Rattle.rules.specs.Ceilings.{blobCeiling}
-use Rattle.rules.specs.Octets.{Bytes, if_then_else_, padded, lay, hasNul}
+use Rattle.rules.specs.Octets.{Bytes, padded, lay, hasNul}
 use Rattle.rules.specs.Names.{propertyNameValid}
-use Rattle.rules.specs.Outcome.{gives, refuses, Verdict, passes, _then_}
-use Rattle.rules.specs.Writer.{State, nameOffset, nameGrowth, noRoom, wrongState, test, stringsOf, growth, propertyBytes, propertyAt, propertyJudged, withProperty, property, propertyData, propertyStrings}
+use Rattle.rules.specs.Outcome.{gives, refuses, passes}
+use Rattle.rules.specs.Writer.{State, nameOffset, noRoom, wrongState, test, stringsOf, growth, propertyBytes, propertyAt, propertyJudged, withProperty, property, propertyData, propertyStrings}
 use Rattle.rules.specs.Laws.Writer.{length-property}
 use Rattle.judge.specs.Meaning.{numberOf}
 use Rattle.judge.specs.Judged.{placeOf, sized, placed, grown}

@@ -1,7 +1,7 @@
 -- What the writer's state and answers mean in the paper's words: "a definition gives this paper's number and values for
 -- each of its cases".
 use mathlib.Core.Path.{_≡_, refl, sym, ap, _∙_}
-use Rattle.rules.specs.Outcome.{Outcome, gives, refuses, Verdict, passes}
+use Rattle.rules.specs.Outcome.{gives, refuses, Verdict, passes}
 use Rattle.rules.specs.Writer.{State, Answer}
 use Rattle.judge.specs.Meaning.{numberOf, errorOf, error-of}
 use Rattle.writer.specs.declared.FdtWriter.{FdtWriter}

@@ -12,9 +12,9 @@ use rules::FDT_LAST_COMP_VERSION;
 use rules::FDT_MAGIC;
 use rules::FDT_VERSION;
 use rules::RESERVATION_CEILING;
+ghost use mathlib.Core.List.{[]};
 ghost use mathlib.Core.Path.{_≡_};
 ghost use mathlib.Core.Bool.{false};
-ghost use mathlib.Core.List.{[]};
 ghost use Prim.Native.Nat.{_+_, _≤_};
 ghost use lib.ListN.{length};
 ghost use Rattle.rules.specs.Ceilings.{blobCeiling};
@@ -39,7 +39,8 @@ pub struct FdtWriter {
     pub boot_cpuid_phys: u32,
 }
 
-// What a call answers: the next state; or the state as it was, and why. A refused call changes no buffer.
+// What a call answers: the next state; or why it is refused, with the state as it was (of a refused start: zeros, marked finished).
+// A refused call changes no buffer.
 pub enum Written {
     Done(FdtWriter),
     Refused(FdtWriter, Error),

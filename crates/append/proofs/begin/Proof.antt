@@ -1,10 +1,10 @@
 -- `begin` meets its contract: the token, then the name with its NUL and padding.
-use mathlib.Core.Path.{_≡_, refl, sym, ap, _∙_}
-use Prim.Native.Nat.{_+_, _-_, _%_, _≤_}
+use mathlib.Core.Path.{_≡_, sym}
+use Prim.Native.Nat.{_+_, _-_, _%_}
 use native.Mathlib.Omega.{arith}
 use lib.ListN.{length}
 use denote.Ref.{now}
-use Rattle.rules.specs.Octets.{be32, zeros, padded}
+use Rattle.rules.specs.Octets.{be32, padded}
 use Rattle.rules.specs.Writer.{beginBytes}
 use Rattle.rules.specs.Laws.Octets.{lay-past, length-be32}
 use Rattle.rules.specs.Laws.Writer.{laid-on, filled-closed}

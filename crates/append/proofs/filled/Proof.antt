@@ -1,11 +1,10 @@
 -- `filled` meets its contract: where the bytes reach the end, the zeros make no difference.
-use mathlib.Core.Path.{_≡_, refl, sym, ap, _∙_}
-use Prim.Native.Nat.{_+_, _-_, _≤_}
+use mathlib.Core.Path.{refl, _∙_}
+use Prim.Native.Nat.{_-_}
 use native.Mathlib.Omega.{arith}
-use lib.ListN.{length}
 use denote.Ref.{now}
 use Rattle.rules.specs.Octets.{zeros}
-use Rattle.rules.specs.Laws.Octets.{lay-more, length-lay}
+use Rattle.rules.specs.Laws.Octets.{lay-more}
 use Rattle.rules.specs.Laws.Writer.{laid-on}
 use borrow.Author.Needs.{needs}
 use Rattle.append.proofs.filled.Statement.{statement}

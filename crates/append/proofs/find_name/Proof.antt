@@ -1,11 +1,10 @@
 -- `find_name` meets its contract. The invariant: the offset is the place reached and the offset from there on.
-use mathlib.Core.Path.{_≡_, refl, sym, ap, _∙_}
+use mathlib.Core.Path.{_≡_, sym, _∙_}
 use Prim.Native.Nat.{_+_, _-_, _≤_}
 use native.Mathlib.Omega.{arith}
-use lib.ListN.{length, drop, length-drop, drop-of-length-le}
+use lib.ListN.{length, drop, length-drop}
 use lib.Seq.{drop-drop}
 use denote.Ref.{now}
-use Rattle.rules.specs.Octets.{begins, closed}
 use Rattle.rules.specs.Writer.{nameOffset}
 use Rattle.rules.specs.Laws.Octets.{take-rest}
 use Rattle.rules.specs.Laws.Writer.{name-here, name-past, name-nowhere, offset-le}

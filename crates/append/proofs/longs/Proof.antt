@@ -1,6 +1,6 @@
 -- `longs` meets its contract. The invariant: i numbers are laid in.
-use mathlib.Core.Path.{_≡_, refl, sym, ap, _∙_}
-use Prim.Native.Nat.{_+_, _*_, _-_, _≤_}
+use mathlib.Core.Path.{_≡_, sym, ap, _∙_}
+use Prim.Native.Nat.{_+_, _-_, _≤_}
 use native.Mathlib.Nat.{le-antisymm}
 use native.Mathlib.Omega.{arith}
 use lib.ListN.{length, take, getD, length-append}
@@ -8,7 +8,7 @@ use lib.Seq.{take-length}
 use denote.Ref.{now}
 use Rattle.rules.specs.Octets.{be64, words64, lay}
 use Rattle.rules.specs.Laws.Octets.{lay-nil, length-lay, length-be64}
-use Rattle.rules.specs.Laws.Writer.{laid-on, length-words64, words64-more, words64-cut}
+use Rattle.rules.specs.Laws.Writer.{laid-on, words64-more, words64-cut}
 use borrow.Author.Needs.{needs}
 use Rattle.append.proofs.longs.Statement.{statement}
 use Rattle.append.proofs.longs.Tie as tie

@@ -1,8 +1,7 @@
 -- `property_head` meets its contract: three words, each the low bits of its number.
-use mathlib.Core.Path.{_≡_, refl, sym, ap, _∙_}
+use mathlib.Core.Path.{_∙_}
 use mathlib.Core.List.{append-nil}
-use denote.Ref.{now}
-use Rattle.rules.specs.Octets.{be32, words32}
+use Rattle.rules.specs.Octets.{words32}
 use Rattle.rules.specs.Laws.Writer.{be32-low}
 use borrow.Author.Needs.{needs}
 use Rattle.append.proofs.property_head.Statement.{statement}

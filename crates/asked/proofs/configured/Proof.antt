@@ -1,8 +1,8 @@
 -- `configured` meets its contract. The invariant: the nodes laid, and those that the rest of the list names up to its first fault,
 -- are the whole; the rest of the list, judged with what was seen, is the whole list judged.
+use mathlib.Core.List.{[]}
 use mathlib.Core.Path.{sym, ap, _∙_}
 use mathlib.Core.Option.{none, some}
-use mathlib.Core.List.{[]}
 use Prim.Native.Nat.{_-_, _≤_}
 use native.Mathlib.Omega.{arith}
 use lib.ListN.{length}
@@ -10,7 +10,7 @@ use denote.Ref.{now}
 use Rattle.rules.specs.Octets.{Bytes, part}
 use Rattle.rules.specs.Tree.{frame}
 use Rattle.rules.specs.Laws.Kept.{node-word}
-use Rattle.paths.specs.Trees.{treeOf}
+use Rattle.rules.specs.Laws.Tabled.{treeOf}
 use Rattle.references.specs.Table.{found}
 use Rattle.given.specs.Entries.{path-tells}
 use Rattle.asked.proofs.Turns.{told-at, at-small, Rest, rest-length, rest-first, rest-done, rest-none, rest-again, rest-new}

@@ -1,7 +1,7 @@
 -- `excluded` meets its contract. The invariant: the nodes laid, and those that the rest of the list names, are the whole.
+use mathlib.Core.List.{[]}
 use mathlib.Core.Path.{ap}
 use mathlib.Core.Option.{none, some}
-use mathlib.Core.List.{[]}
 use Prim.Native.Nat.{_-_, _≤_}
 use native.Mathlib.Omega.{arith}
 use lib.ListN.{length}
@@ -9,7 +9,7 @@ use denote.Ref.{now}
 use Rattle.rules.specs.Octets.{Bytes, part}
 use Rattle.rules.specs.Tree.{frame}
 use Rattle.rules.specs.Laws.Kept.{node-word}
-use Rattle.paths.specs.Trees.{treeOf}
+use Rattle.rules.specs.Laws.Tabled.{treeOf}
 use Rattle.references.specs.Table.{found}
 use Rattle.given.specs.Entries.{path-tells}
 use Rattle.asked.proofs.Turns.{told-at, at-small, Left, left-length, left-first, left-done, left-some, left-none}

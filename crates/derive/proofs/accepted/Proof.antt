@@ -2,10 +2,10 @@
 use mathlib.Core.Path.{refl, ap}
 use denote.Ref.{now}
 use Rattle.rules.specs.Laws.Host.{block-is, part-is, part-at, wide}
-use Rattle.references.specs.Cells.{blockOf}
 use Rattle.derive.specs.Answers.{checked}
 use Rattle.derive.proofs.Joining.{whole, accepts-not, conf-few, start-asked, excl-few, accepts}
 use borrow.Author.Needs.{needs}
+use Rattle.rules.specs.Blob.{blockOf}
 use Rattle.derive.proofs.accepted.Statement.{statement}
 use Rattle.derive.proofs.accepted.Tie as tie
 

@@ -1,5 +1,4 @@
 -- `named_at` meets its contract.
-use mathlib.Core.Path.{sym, _∙_}
 use borrow.Author.Tests.{not-true, not-false}
 use Rattle.doubled.specs.Siblings.{namedAt}
 use borrow.Author.Needs.{needs}

@@ -1,10 +1,10 @@
 -- `node` meets its contract.
-use mathlib.Core.Path.{_≡_, refl, sym, ap, ap₂, _∙_}
+use mathlib.Core.Path.{refl, sym, ap, ap₂, _∙_}
 use mathlib.Core.Bool.{Bool}
-use mathlib.Core.List.{List, [], _∷_}
-use Prim.Native.Nat.{ℕ, _+_}
+use mathlib.Core.List.{[], _∷_}
+use Prim.Native.Nat.{_+_}
 use denote.Ref.{now}
-use Rattle.rules.specs.Outcome.{_then_, Test, first}
+use Rattle.rules.specs.Outcome.{_then_, first}
 use Rattle.rules.specs.Tree.{doubledProps}
 use Rattle.doubled.specs.Passes.{propsAt}
 use Rattle.doubled.specs.Siblings.{siblingBelow}

@@ -1,6 +1,5 @@
 -- `row_named` meets its contract.
-use mathlib.Core.Path.{_≡_, sym, ap, _∙_}
-use mathlib.Core.List.{List}
+use mathlib.Core.Path.{ap, _∙_}
 use Prim.Native.Nat.{ℕ, _*_, _+_, _-_}
 use native.Mathlib.Omega.{arith}
 use lib.ListN.{length, getD, drop, length-drop}
@@ -8,6 +7,7 @@ use lib.Seq.{take-all}
 use denote.Ref.{now}
 use borrow.Author.Tests.{le-ltb, lt-ltb, ne-eqb, eq-eqb, lt-leb, le-leb}
 use Rattle.rules.specs.Ceilings.{nodeWords}
+use Rattle.rules.specs.Laws.Constants.{NODE-WORDS}
 use Rattle.doubled.specs.Siblings.{namedAt, rowNamed}
 use borrow.Author.Needs.{needs}
 use Rattle.doubled.proofs.row_named.Statement.{statement}
@@ -40,14 +40,14 @@ shared-slice-read-begin : tie.Need-shared-slice-read-begin
 shared-slice-read-begin c = search needs
 
 cast-begin : tie.Need-cast-begin
-cast-begin c = omega (arith, c .shared-slice-known5 .given (4 * c .before .before .before .before .before .before .before .args .j))
+cast-begin c = omega (arith, c .shared-slice-known5 .given (NODE-WORDS * c .before .before .before .before .before .before .before .args .j))
 
 returns-3 : tie.Need-returns-3
 unfolding rowNamed nodeWords
 returns-3 c = simp (lt-ltb _ _ (c .before .before .before .before .if1 .left), eq-eqb _ _ (c .before .before .if2 .left), lt-leb _ _ (c .if3 .taken))
 
 add-part : tie.Need-add-part
-add-part c = omega (arith, c .before .shared-slice-known5 .given (4 * c .before .before .before .before .before .before .before .before .args .j))
+add-part c = omega (arith, c .before .shared-slice-known5 .given (NODE-WORDS * c .before .before .before .before .before .before .before .before .args .j))
 
 part-requires : tie.Need-part-requires
 part-requires c κs = search needs
@@ -58,7 +58,7 @@ named-at-requires c κs = search needs
 returns-4 : tie.Need-returns-4
 unfolding rowNamed nodeWords
 returns-4 c =
-    let n : ℕ = getD (now (c .before .before .before .before .before .before .before .before .before .before .args .work)) (4 * c .before .before .before .before .before .before .before .before .before .before .args .j) 0 - c .before .before .before .before .before .before .before .before .before .before .args .place + 4 in
+    let n : ℕ = getD (now (c .before .before .before .before .before .before .before .before .before .before .args .work)) (NODE-WORDS * c .before .before .before .before .before .before .before .before .before .before .args .j) 0 - c .before .before .before .before .before .before .before .before .before .before .args .place + 4 in
     simp (lt-ltb _ _ (c .before .before .before .before .before .before .if1 .left), eq-eqb _ _ (c .before .before .before .before .if2 .left), le-leb _ _ (c .before .before .if3 .left))
     (c .named-at .ensures ∙ ap (namedAt (now (c .before .before .before .before .before .before .before .before .before .before .args .name))) (c .before .part .ensures ∙ take-all (length (now (c .before .before .before .before .before .before .before .before .before .before .args .s))) (drop n (now (c .before .before .before .before .before .before .before .before .before .before .args .s))) (omega (arith, length-drop n (now (c .before .before .before .before .before .before .before .before .before .before .args .s))))))
 

@@ -1,9 +1,8 @@
 -- `closed` meets its contract. The invariant: the reservations from here on are closed exactly if all are.
-use mathlib.Core.Path.{_≡_, sym, ap, _∙_}
+use mathlib.Core.Path.{sym, ap, _∙_}
 use mathlib.Core.Bool.{not}
-use Prim.Native.Nat.{_+_, _-_, _≤_, _<_}
+use Prim.Native.Nat.{_-_, _<_}
 use native.Mathlib.Omega.{arith}
-use lib.ListN.{length}
 use denote.Ref.{now}
 use Rattle.rules.specs.Laws.Blob.{Searched, search-starts, search-on, entries-none, entries-here}
 use borrow.Author.Needs.{needs}

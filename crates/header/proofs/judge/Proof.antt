@@ -1,5 +1,4 @@
 -- `judge` meets its contract: one refusal after the other, and then where the blocks stand.
-use mathlib.Core.Path.{_≡_, sym, _∙_}
 use denote.Ref.{now}
 use borrow.Author.Tests.{lt-ltb, le-ltb, eq-eqb, ne-eqb}
 use Rattle.rules.specs.Blob.{headerIn}

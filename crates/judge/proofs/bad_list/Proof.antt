@@ -1,7 +1,6 @@
 -- `bad_list` meets its contract.
-use mathlib.Core.Path.{_≡_, refl, sym, ap, _∙_}
+use mathlib.Core.Path.{sym}
 use native.Mathlib.Omega.{arith}
-use lib.ListN.{length}
 use denote.Ref.{now}
 use Rattle.rules.specs.Laws.Writer.{bad-none, bad-last}
 use borrow.Author.Needs.{needs}

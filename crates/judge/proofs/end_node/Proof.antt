@@ -1,13 +1,11 @@
 -- `end_node` meets its contract: the first test that fails.
-use mathlib.Core.Path.{_≡_, refl, sym, ap, _∙_}
-use mathlib.Core.Bool.{Bool, true, false, not, _||_}
-use Prim.Native.Nat.{ℕ, _+_, _%_, _≤_, _<_}
-use native.Mathlib.Omega.{arith}
-use lib.Dec.{leb, ltb, eqb}
+use mathlib.Core.Path.{_≡_, sym, _∙_}
+use mathlib.Core.Bool.{true, false}
+use Prim.Native.Nat.{_+_}
+use lib.Dec.{ltb}
 use lib.ListN.{length}
-use denote.Ref.{now}
-use borrow.Author.Tests.{le-leb, lt-leb, eq-eqb, ne-eqb, lt-ltb, le-ltb, not-true, not-false}
-use Rattle.rules.specs.Ceilings.{blobCeiling, openCeiling}
+use borrow.Author.Tests.{eq-eqb, ne-eqb}
+use Rattle.rules.specs.Ceilings.{blobCeiling}
 use Rattle.rules.specs.Writer.{room, impossible, endBytes, endJudged}
 use Rattle.rules.specs.Laws.Writer.{length-end}
 use Rattle.judge.specs.Meaning.{stateOf}

@@ -1,5 +1,4 @@
 -- `growth` meets its contract.
-use mathlib.Core.Path.{_≡_, refl, sym, ap, _∙_}
 use borrow.Author.Tests.{lt-ltb, le-ltb}
 use borrow.Author.Needs.{needs}
 use Rattle.judge.proofs.growth.Statement.{statement}

@@ -1,8 +1,8 @@
 -- `noted` meets its contract. The invariant: what is left of the first n decides.
-use mathlib.Core.Path.{_≡_, refl, sym, ap, _∙_}
+use mathlib.Core.Path.{_≡_, refl, sym, _∙_}
 use Prim.Native.Nat.{_-_, _≤_}
 use native.Mathlib.Omega.{arith}
-use lib.ListN.{length, take, drop}
+use lib.ListN.{take, drop}
 use denote.Ref.{now}
 use Rattle.rules.specs.Lists.{oneOf}
 use Rattle.rules.specs.Laws.Writer.{one-of-here, one-of-more, one-of-end}

@@ -1,15 +1,14 @@
 -- `property` meets its contract: the first test that fails, or where the name was found.
-use mathlib.Core.Path.{_≡_, refl, sym, ap, _∙_}
-use mathlib.Core.Bool.{Bool, true, false, not, _||_}
-use Prim.Native.Nat.{ℕ, _+_, _%_, _≤_, _<_}
-use native.Mathlib.Omega.{arith}
-use lib.Dec.{leb, ltb, eqb}
+use mathlib.Core.Path.{_≡_, sym, ap, _∙_}
+use mathlib.Core.Bool.{true, false, not}
+use Prim.Native.Nat.{ℕ, _+_}
+use lib.Dec.{ltb, eqb}
 use lib.ListN.{length}
 use denote.Ref.{now}
-use borrow.Author.Tests.{le-leb, lt-leb, eq-eqb, ne-eqb, lt-ltb, le-ltb, not-true, not-false}
-use Rattle.rules.specs.Octets.{Bytes, hasNul}
+use borrow.Author.Tests.{eq-eqb, ne-eqb, not-true, not-false}
+use Rattle.rules.specs.Octets.{hasNul}
 use Rattle.rules.specs.Names.{propertyNameValid}
-use Rattle.rules.specs.Outcome.{Outcome, gives}
+use Rattle.rules.specs.Outcome.{gives}
 use Rattle.rules.specs.Writer.{room, impossible, growth, nameOffset, stringsOf}
 use Rattle.judge.specs.Meaning.{stateOf}
 use Rattle.judge.specs.Judged.{sized, placed}

@@ -1,7 +1,6 @@
 -- `room` meets its contract.
 use native.Mathlib.Omega.{arith}
 use Rattle.rules.specs.Ceilings.{blobCeiling}
-use borrow.Author.Needs.{needs}
 use Rattle.judge.proofs.room.Statement.{statement}
 use Rattle.judge.proofs.room.Tie as tie
 

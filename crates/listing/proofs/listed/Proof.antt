@@ -1,9 +1,9 @@
 -- `listed` meets its contract.
 use native.Mathlib.Omega.{arith}
 use denote.Ref.{now}
-use Rattle.references.specs.Cells.{blockOf}
 use Rattle.listing.proofs.Joined.{lists}
 use borrow.Author.Needs.{needs}
+use Rattle.rules.specs.Blob.{blockOf}
 use Rattle.listing.proofs.listed.Statement.{statement}
 use Rattle.listing.proofs.listed.Tie as tie
 

@@ -1,9 +1,9 @@
 -- `reached` meets its contract: each part hands on what the next asks for.
 use native.Mathlib.Omega.{arith}
 use denote.Ref.{now}
-use Rattle.references.specs.Cells.{blockOf}
 use Rattle.listing.proofs.Joined.{start-room, clear-nodes, given-kept, given-piled, reaches}
 use borrow.Author.Needs.{needs}
+use Rattle.rules.specs.Blob.{blockOf}
 use Rattle.listing.proofs.reached.Statement.{statement}
 use Rattle.listing.proofs.reached.Tie as tie
 

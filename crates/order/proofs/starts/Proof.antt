@@ -5,7 +5,8 @@ use native.Mathlib.Omega.{arith}
 use lib.ListN.{length}
 use denote.Ref.{now}
 use Rattle.rules.specs.Octets.{Bytes}
-use Rattle.order.specs.Starts.{block, Asked, Placed}
+use Rattle.rules.specs.Blob.{blockOf}
+use Rattle.order.specs.Starts.{Asked, Placed}
 use Rattle.order.proofs.Turns.{placed-start, placed-done}
 use borrow.Author.Needs.{needs}
 use Rattle.order.proofs.starts.Statement.{statement}
@@ -15,13 +16,13 @@ abbrev Inv-loop : tie.InvT-loop
 Inv-loop structure place work₀ count conf n₀ i₀ work n i =
     (n + i ≤ count)
     × (length work ≡ length work₀)
-    × ((strings : Bytes) → Asked (block place structure strings) work₀ count conf → Placed (block place structure strings) work₀ count conf i n work)
+    × ((strings : Bytes) → Asked (blockOf place structure strings) work₀ count conf → Placed (blockOf place structure strings) work₀ count conf i n work)
 
 abbrev μ-loop : tie.MeasureT-loop
 μ-loop structure place work₀ count conf n₀ i₀ work n i = i
 
 loop-holds : tie.Need-loop-holds Inv-loop μ-loop
-loop-holds c = (omega arith, refl, λ strings a. placed-start (block (c .before .before .before .args .place) (now (c .before .before .before .args .structure)) strings) (now (c .before .before .before .args .work)) (c .before .before .before .args .count) (now (c .before .before .before .args .conf)) a)
+loop-holds c = (omega arith, refl, λ strings a. placed-start (blockOf (c .before .before .before .args .place) (now (c .before .before .before .args .structure)) strings) (now (c .before .before .before .args .work)) (c .before .before .before .args .count) (now (c .before .before .before .args .conf)) a)
 
 sub-i : tie.Need-sub-i Inv-loop μ-loop
 sub-i c = search needs
@@ -39,7 +40,7 @@ loop-again c =
       c .before .before .turn .kept .1 .1 .0 ∙ c .before .before .before .before .before .loop .inv .1,
       λ strings a.
           c .before .before .turn .ensures .1 strings (now (c .before .before .before .before .before .before .before .before .before .args .work)) a
-          (subst (λ (k : ℕ). Placed (block (c .before .before .before .before .before .before .before .before .before .args .place) (now (c .before .before .before .before .before .before .before .before .before .args .structure)) strings) (now (c .before .before .before .before .before .before .before .before .before .args .work)) (c .before .before .before .before .before .before .before .before .before .args .count) (now (c .before .before .before .before .before .before .before .before .before .args .conf)) k (c .before .before .before .before .before .loop .n) (c .before .before .before .before .before .loop .work)) e (c .before .before .before .before .before .loop .inv .2 strings a)),
+          (subst (λ (k : ℕ). Placed (blockOf (c .before .before .before .before .before .before .before .before .before .args .place) (now (c .before .before .before .before .before .before .before .before .before .args .structure)) strings) (now (c .before .before .before .before .before .before .before .before .before .args .work)) (c .before .before .before .before .before .before .before .before .before .args .count) (now (c .before .before .before .before .before .before .before .before .before .args .conf)) k (c .before .before .before .before .before .loop .n) (c .before .before .before .before .before .loop .work)) e (c .before .before .before .before .before .loop .inv .2 strings a)),
     )
 
 same-length : tie.Need-same-length Inv-loop μ-loop
@@ -50,8 +51,8 @@ returns c =
     let e : c .before .loop .i ≡ 0 = omega arith in (
       omega arith,
       λ strings a.
-          placed-done (block (c .before .before .before .before .before .args .place) (now (c .before .before .before .before .before .args .structure)) strings) (now (c .before .before .before .before .before .args .work)) (c .before .before .before .before .before .args .count) (now (c .before .before .before .before .before .args .conf)) a (c .before .loop .n) (c .before .loop .work)
-          (subst (λ (k : ℕ). Placed (block (c .before .before .before .before .before .args .place) (now (c .before .before .before .before .before .args .structure)) strings) (now (c .before .before .before .before .before .args .work)) (c .before .before .before .before .before .args .count) (now (c .before .before .before .before .before .args .conf)) k (c .before .loop .n) (c .before .loop .work)) e (c .before .loop .inv .2 strings a)),
+          placed-done (blockOf (c .before .before .before .before .before .args .place) (now (c .before .before .before .before .before .args .structure)) strings) (now (c .before .before .before .before .before .args .work)) (c .before .before .before .before .before .args .count) (now (c .before .before .before .before .before .args .conf)) a (c .before .loop .n) (c .before .loop .work)
+          (subst (λ (k : ℕ). Placed (blockOf (c .before .before .before .before .before .args .place) (now (c .before .before .before .before .before .args .structure)) strings) (now (c .before .before .before .before .before .args .work)) (c .before .before .before .before .before .args .count) (now (c .before .before .before .before .before .args .conf)) k (c .before .loop .n) (c .before .loop .work)) e (c .before .loop .inv .2 strings a)),
     )
 
 pub starts-spec : {M : Type 1} → statement M

@@ -4,9 +4,9 @@ use native.Mathlib.Omega.{arith}
 use denote.Ref.{now}
 use borrow.Author.Tests.{not-true, not-false}
 use Rattle.rules.specs.Laws.Kept.{node-word}
-use Rattle.order.specs.Starts.{block}
 use Rattle.order.proofs.Turns.{turn-skip, formed-kept, ordered-kept, turn-take}
 use borrow.Author.Needs.{needs}
+use Rattle.rules.specs.Blob.{blockOf}
 use Rattle.order.proofs.turn.Statement.{statement}
 use Rattle.order.proofs.turn.Tie as tie
 
@@ -20,7 +20,7 @@ returns : tie.Need-returns
 returns c = (
   omega arith,
   λ strings ws a p.
-      let b = block (c .before .before .before .before .before .before .args .place) (now (c .before .before .before .before .before .before .args .structure)) strings in
+      let b = blockOf (c .before .before .before .before .before .before .args .place) (now (c .before .before .before .before .before .before .args .structure)) strings in
       turn-skip b ws (c .before .before .before .before .before .before .args .count) (now (c .before .before .before .before .before .before .args .conf)) a (c .before .before .before .before .before .before .args .i) (c .before .before .before .before .before .before .args .n) (now (c .before .before .before .before .before .before .args .work)) (c .before .before .before .before .before .before .pre .0) (c .before .before .before .before .before .before .pre .1) p
       (sym (not-true (c .before .within-any .result) (c .if1 .taken)) ∙ c .before .within-any .ensures b),
 )
@@ -44,7 +44,7 @@ returns-2 : tie.Need-returns-2
 returns-2 c = (
   omega arith,
   λ strings ws a p.
-      let b = block (c .before .before .before .before .before .before .before .before .before .before .before .before .args .place) (now (c .before .before .before .before .before .before .before .before .before .before .before .before .args .structure)) strings in
+      let b = blockOf (c .before .before .before .before .before .before .before .before .before .before .before .before .args .place) (now (c .before .before .before .before .before .before .before .before .before .before .before .before .args .structure)) strings in
       let o = ordered-kept b ws (c .before .before .before .before .before .before .before .before .before .before .before .before .args .count) (now (c .before .before .before .before .before .before .before .before .before .before .before .before .args .conf)) a (c .before .before .before .before .before .before .before .before .before .before .before .before .args .i) (c .before .before .before .before .before .before .before .before .before .before .before .before .args .n) (now (c .before .before .before .before .before .before .before .before .before .before .before .before .args .work)) (c .before .before .before .before .before .before .before .before .before .before .before .before .pre .0) (c .before .before .before .before .before .before .before .before .before .before .before .before .pre .1) p in
       let w = formed-kept b ws (c .before .before .before .before .before .before .before .before .before .before .before .before .args .count) (now (c .before .before .before .before .before .before .before .before .before .before .before .before .args .conf)) a (c .before .before .before .before .before .before .before .before .before .before .before .before .args .i) (c .before .before .before .before .before .before .before .before .before .before .before .before .args .n) (now (c .before .before .before .before .before .before .before .before .before .before .before .before .args .work)) (c .before .before .before .before .before .before .before .before .before .before .before .before .pre .0) (c .before .before .before .before .before .before .before .before .before .before .before .before .pre .1) p in
       turn-take b ws (c .before .before .before .before .before .before .before .before .before .before .before .before .args .count) (now (c .before .before .before .before .before .before .before .before .before .before .before .before .args .conf)) a (c .before .before .before .before .before .before .before .before .before .before .before .before .args .i) (c .before .before .before .before .before .before .before .before .before .before .before .before .args .n) (now (c .before .before .before .before .before .before .before .before .before .before .before .before .args .work)) (c .before .before .before .before .before .before .before .before .before .before .before .before .pre .0) (c .before .before .before .before .before .before .before .before .before .before .before .before .pre .1) p

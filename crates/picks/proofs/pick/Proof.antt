@@ -3,10 +3,11 @@ use mathlib.Core.Path.{ap}
 use Prim.Native.Nat.{ℕ}
 use lib.Dec.{eqb}
 use denote.Ref.{now}
-use Rattle.rules.specs.Laws.Kept.{node-word, marks-at, stack-at, names-at, word-in-part, put-in-part}
-use Rattle.references.specs.Cells.{blockOf}
+use Rattle.rules.specs.Laws.Kept.{node-word, word-in-part, put-in-part}
 use Rattle.picks.proofs.Coding.{turned-is}
 use borrow.Author.Needs.{needs}
+use Rattle.rules.specs.Blob.{blockOf}
+use Rattle.rules.specs.Laws.Constants.{marks-at, stack-at, names-at}
 use Rattle.picks.proofs.pick.Statement.{statement}
 use Rattle.picks.proofs.pick.Tie as tie
 

@@ -1,6 +1,6 @@
 -- `picks` meets its contract.
 use denote.Ref.{now}
-use Rattle.references.specs.Cells.{blockOf}
+use Rattle.rules.specs.Blob.{blockOf}
 use Rattle.picks.proofs.picks.Statement.{statement}
 use Rattle.picks.proofs.picks.Tie as tie
 

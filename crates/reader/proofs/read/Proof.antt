@@ -1,7 +1,6 @@
 -- `read` meets its contract: no space, then the header, then the blocks; after a refusal the work space is cleared.
-use mathlib.Core.Path.{_≡_, sym, ap, _∙_, subst}
+use mathlib.Core.Path.{sym, ap, _∙_, subst}
 use native.Mathlib.Omega.{arith}
-use lib.ListN.{length}
 use denote.Ref.{now}
 use Rattle.rules.specs.Ceilings.{workWords}
 use Rattle.reader.specs.Answers.{meaning}

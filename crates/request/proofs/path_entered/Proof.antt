@@ -1,6 +1,6 @@
 -- `path_entered` meets its contract: nothing is laid, or the path and its NUL.
 use mathlib.Core.Path.{refl, sym, ap, _∙_}
-use mathlib.Core.List.{_∷_, [], _++_}
+use mathlib.Core.List.{[], _∷_, _++_}
 use Prim.Native.Nat.{_+_}
 use native.Mathlib.Omega.{arith}
 use lib.ListN.{length, length-append}

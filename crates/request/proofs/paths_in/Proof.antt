@@ -1,6 +1,6 @@
 -- `paths_in` meets its contract. The invariant: what the lines so far add is laid, and what the others add is the rest of the list.
-use mathlib.Core.Path.{ap, _∙_, subst}
 use mathlib.Core.List.{[]}
+use mathlib.Core.Path.{ap, _∙_, subst}
 use Prim.Native.Nat.{_-_, _≤_}
 use native.Mathlib.Omega.{arith}
 use lib.ListN.{length}

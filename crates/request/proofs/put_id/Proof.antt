@@ -1,6 +1,6 @@
 -- `put_id` meets its contract.
 use mathlib.Core.Path.{sym}
-use mathlib.Core.List.{_∷_, []}
+use mathlib.Core.List.{[], _∷_}
 use denote.Ref.{now}
 use Rattle.rules.specs.Laws.Octets.{lay-one, lay-past}
 use borrow.Author.Needs.{needs}

@@ -1,6 +1,6 @@
 -- `any_overlap` meets its contract. The invariant: the answer is that for the pairs whose later entry stands at i or behind it.
-use mathlib.Core.Path.{_≡_, sym, ap, _∙_}
 use mathlib.Core.List.{[]}
+use mathlib.Core.Path.{_≡_, sym, ap, _∙_}
 use Prim.Native.Nat.{_-_, _≤_}
 use native.Mathlib.Omega.{arith}
 use lib.ListN.{length, take, drop}

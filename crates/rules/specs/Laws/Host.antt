@@ -25,6 +25,7 @@ use Rattle.rules.specs.Laws.Table.{rows-length, read-table}
 use Rattle.rules.specs.Laws.Kept.{Kept, kept-read}
 use Rattle.rules.specs.Laws.Tabled.{treeIn}
 use Rattle.rules.specs.Laws.TabledRead.{tree-read}
+use Rattle.rules.specs.Laws.Constants.{ENTRY-CEILING, WORK-WORDS, entry-ceiling, work-words}
 
 -- the host is accepted, and its table stands in the work space
 pub record HostRead (host : Bytes) (ws : List ℕ) (count : ℕ) : Type 0 where
@@ -48,9 +49,8 @@ part-at host at n from field s d e f = f ∙ ap₂ (part host) d e
 -- ---- the nodes that a path list names
 
 -- an array of as many words as the ceiling
-pub wide : entryCeiling ≤ length {A = ℕ} (replicate 64 0)
-unfolding entryCeiling
-wide = omega arith
+pub wide : entryCeiling ≤ length {A = ℕ} (replicate ENTRY-CEILING 0)
+wide = omega (arith, entry-ceiling)
 
 -- no more of them than entries, so that such an array holds them, and they stand in front
 module _ (f : Frame) (gs : List Given) (few : length gs ≤ entryCeiling) (old new : List ℕ) (n : ℕ) (room : entryCeiling ≤ length old)
@@ -69,9 +69,8 @@ unfolding spaceOf put
 space-same vs ds e = let l : length (zeros (workWords - 0)) ≡ workWords = length-zeros (workWords - 0) ∙ sub-zero workWords in rw (l, zero-add, e)
 
 -- the words that code clears are those of the work space
-pub cleared : (vs us : List ℕ) → us ≡ lay vs 0 (zeros 16384) → us ≡ lay vs 0 (zeros workWords)
-unfolding workWords
-cleared vs us e = e
+pub cleared : (vs us : List ℕ) → us ≡ lay vs 0 (zeros WORK-WORDS) → us ≡ lay vs 0 (zeros workWords)
+cleared vs us e = e ∙ ap (λ (n : ℕ). lay vs 0 (zeros n)) work-words
 
 pub space-length-kept : (work : List ℕ) → length (deriveWork work) ≡ length work
 unfolding deriveWork

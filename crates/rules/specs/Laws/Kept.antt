@@ -1,6 +1,6 @@
 -- A work space that keeps the node table of an accepted blob, whatever is written behind it: what the functions over the table may
--- count on, and that writing behind the table takes nothing of it away. The first three sections are all that a proof knows of the
--- numbers of Ceilings and Space: a change of a number is answered here.
+-- count on, and that writing behind the table takes nothing of it away. The first two sections are, with Constants,
+-- all that a proof knows of the numbers of Ceilings and Space: a change of a number is answered there.
 use mathlib.Core.Path.{_≡_, refl, sym, ap, _∙_}
 use mathlib.Core.List.{List, [], _∷_}
 use Prim.Native.Nat.{ℕ, zero, suc, _+_, _*_, _≤_, _<_}
@@ -25,6 +25,7 @@ use Rattle.rules.specs.Laws.Tabled.{cell, nodeIn, treeIn, tree-length, n
 use Rattle.rules.specs.Laws.TabledRead.{tree-read, look-read, formed-in}
 use Rattle.rules.specs.Laws.Table.{rows-length, read-table}
 use Rattle.rules.specs.Laws.Formed.{accepted}
+use Rattle.rules.specs.Laws.Constants.{NODE-WORDS}
 
 -- ---- the parts follow one another, inside the work space
 
@@ -54,7 +55,7 @@ unfolding namesAt stackAt listAt marksAt tableWords nodeCeiling nodeWords workWo
 names-room = omega arith
 
 -- a row of a node is inside the table
-pub row-inside : (count i k : ℕ) → count ≤ nodeCeiling → i < count → k < 4 → 4 * i + k < tableWords
+pub row-inside : (count i k : ℕ) → count ≤ nodeCeiling → i < count → k < NODE-WORDS → NODE-WORDS * i + k < tableWords
 unfolding tableWords nodeWords
 row-inside count i k h g l = omega arith
 
@@ -74,39 +75,7 @@ pub paths-counted : nodeCeiling * (longest + 1) < 18446744073709551616
 unfolding nodeCeiling blobCeiling
 paths-counted = omega arith
 
--- ---- the constants of src/lib.rt are the numbers of the definitions
-
-pub node-ceiling : 2048 ≡ nodeCeiling
-unfolding nodeCeiling
-node-ceiling = refl
-
-pub blob-ceiling : 1048576 ≡ blobCeiling
-unfolding blobCeiling
-blob-ceiling = refl
-
-pub entry-ceiling : 64 ≡ entryCeiling
-unfolding entryCeiling
-entry-ceiling = refl
-
-pub work-words : 16384 ≡ workWords
-unfolding workWords
-work-words = refl
-
-pub marks-at : 8192 ≡ marksAt
-unfolding marksAt tableWords nodeCeiling nodeWords
-marks-at = refl
-
-pub list-at : 10240 ≡ listAt
-unfolding listAt marksAt tableWords nodeCeiling nodeWords
-list-at = refl
-
-pub stack-at : 12288 ≡ stackAt
-unfolding stackAt listAt marksAt tableWords nodeCeiling nodeWords
-stack-at = refl
-
-pub names-at : 14336 ≡ namesAt
-unfolding namesAt stackAt listAt marksAt tableWords nodeCeiling nodeWords
-names-at = refl
+-- ---- words at a constant of the code
 
 -- a word that the code reads at its constant is the one of the part, and one that it puts there is put into the part
 pub word-in-part : {a b : ℕ} → a ≡ b → (ws : List ℕ) (x r : ℕ) → r ≡ getD ws (a + x) 0 → r ≡ getD ws (b + x) 0
@@ -132,8 +101,8 @@ abbrev pub Alike : (ws vs : List ℕ) → Type 0
 Alike ws vs = (i : ℕ) → i < tableWords → getD vs i 0 ≡ getD ws i 0
 
 module _ (b : Block) (ws vs : List ℕ) (count : ℕ) (few : count ≤ nodeCeiling) (s : Alike ws vs) where
-  cell-alike : (i k : ℕ) → i < count → k < 4 → cell vs i k ≡ cell ws i k
-  cell-alike i k h l = s (4 * i + k) (row-inside count i k few h l)
+  cell-alike : (i k : ℕ) → i < count → k < NODE-WORDS → cell vs i k ≡ cell ws i k
+  cell-alike i k h l = s (NODE-WORDS * i + k) (row-inside count i k few h l)
 
   node-alike : (i : ℕ) → i < count → nodeIn b vs i ≡ nodeIn b ws i
   node-alike i h = rw (cell-alike i 0 h (omega arith), cell-alike i 1 h (omega arith))
@@ -177,9 +146,6 @@ lay-before ws at xs z i h = by-le (length ws) at
 -- writing behind the table leaves the table
 pub lay-alike : (ws : List ℕ) (at : ℕ) (xs : List ℕ) → tableWords ≤ at → Alike ws (lay ws at xs)
 lay-alike ws at xs h i l = lay-before ws at xs 0 i (omega arith)
-
-pub kept-lay : (b : Block) (ws : List ℕ) (count at : ℕ) (xs : List ℕ) → tableWords ≤ at → Kept b ws count → Kept b (lay ws at xs) count
-kept-lay b ws count at xs h k = kept-alike b ws (lay ws at xs) count (k .few) (lay-alike ws at xs h) (length-lay ws at xs) k
 
 -- ---- only the words from lo up to hi may differ
 

@@ -206,10 +206,6 @@ module _ (r : Rules) (t : Tree) (conf excl : List ℕ) (w : Formed t) (distinct 
       of-keep (λ (y : ℕ). not (eqb y 0) && not (within (frame t) excl y)) (reachedList-iff r t w conf distinct small x .1 (h .1))
       (rw (ne-eqb x 0 (h .0), spared-within t excl x (h .2)))
 
-  -- LISTED EXACTLY IF 01'S RULE SAYS SO
-  pub listed-iff : (x : ℕ) → (x ∈ listed r t conf excl) ↔ Listed r t conf excl x
-  listed-iff x = (to-listed x, of-listed x)
-
   pub listed-small : (x : ℕ) → x ∈ listed r t conf excl → x < length t
   listed-small x m = reached-small r t w conf distinct small (to-listed x m .1)
 

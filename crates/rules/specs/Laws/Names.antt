@@ -121,17 +121,9 @@ unfoldable pub plain : ℕ → Bool
 plain c = ltb c 128 && not (eqb c 0) && not (eqb c 47)
 
 module _ (c : ℕ) (h : plain c ≡ true) where
-  pub plain-ascii : c < 128
-  unfolding plain
-  plain-ascii = ltb-true c 128 (and-true (ltb c 128) _ (and-true (ltb c 128 && not (eqb c 0)) _ h .0) .0)
-
   pub plain-no-nul : c ≡ 0 → ⊥
   unfolding plain
   plain-no-nul = eqb-false c 0 (not-true (eqb c 0) (and-true (ltb c 128) _ (and-true (ltb c 128 && not (eqb c 0)) _ h .0) .1))
-
-  pub plain-no-slash : c ≡ 47 → ⊥
-  unfolding plain
-  plain-no-slash = eqb-false c 47 (not-true (eqb c 47) (and-true (ltb c 128 && not (eqb c 0)) _ h .1))
 
 pub within-true : (low high c : ℕ) → within low high c ≡ true → (low ≤ c) × (c ≤ high)
 within-true low high c h =

@@ -231,10 +231,6 @@ pub word-small : (s : Bytes) (at : ℕ) → AreBytes s → wordAt s at < 4294967
 unfolding wordAt
 word-small s at o = omega (arith, o at, o (at + 1), o (at + 2), o (at + 3))
 
-pub long-small : (s : Bytes) (at : ℕ) → AreBytes s → longAt s at < 18446744073709551616
-unfolding longAt
-long-small s at o = omega (arith, word-small s at o, word-small s (at + 4) o)
-
 -- a number in a part is the number in the whole
 pub word-part : (s : Bytes) (at n k : ℕ) → k + 4 ≤ n → wordAt (part s at n) k ≡ wordAt s (at + k)
 unfolding wordAt
@@ -335,23 +331,12 @@ lay-long-cut d at v h =
 
 -- ---- padding
 
-pub padded-mod : (n : ℕ) → padded n % 4 ≡ 0
-padded-mod n = omega arith
-
 pub padded-le : (n : ℕ) → n ≤ padded n
 padded-le n = omega arith
-
-pub padded-lt : (n : ℕ) → padded n < n + 4
-padded-lt n = omega arith
 
 pub length-filled : (bs : Bytes) → length (filled bs) ≡ padded (length bs)
 unfolding filled
 length-filled bs = rw (length-append, length-zeros) (omega (arith, padded-le (length bs)))
-
--- what is padded begins with what it pads
-pub take-filled : (bs : Bytes) → take (length bs) (filled bs) ≡ bs
-unfolding filled
-take-filled bs = take-append-seam bs _
 
 -- ---- NUL
 
@@ -481,9 +466,6 @@ same-refl (x ∷ a) = rw (eq-eqb x x refl) (same-refl a)
 
 pub eq-same : (a b : Bytes) → a ≡ b → same a b ≡ true
 eq-same a b e = rw e (same-refl b)
-
-pub not-same : (a b : Bytes) → same a b ≡ false → a ≡ b → ⊥
-not-same a b h e = never (same a b) (eq-same a b e) h
 
 pub ne-same : (a b : Bytes) → (a ≡ b → ⊥) → same a b ≡ false
 ne-same a b h = not-passed (same a b) (λ e. h (same-eq a b e))

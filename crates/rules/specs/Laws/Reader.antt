@@ -12,6 +12,7 @@ use Rattle.rules.specs.Events.{Property, Event, opens, has, closes}
 use Rattle.rules.specs.Tree.{Tree, top, rest, nodesFrom}
 use Rattle.rules.specs.Reader.{spaceOf}
 use Rattle.rules.specs.Laws.Octets.{length-zeros, lay-put}
+use Rattle.rules.specs.Laws.Constants.{NODE-WORDS}
 
 -- ---- the work space
 
@@ -87,7 +88,7 @@ unfoldable pub startsOf : Tree → List ℕ
 startsOf [] = []
 startsOf (n ∷ ns) = startOf (n .place) (n .parent) ++ startsOf ns
 
-pub starts-length : (t : Tree) → length (startsOf t) ≡ 4 * length t
+pub starts-length : (t : Tree) → length (startsOf t) ≡ NODE-WORDS * length t
 unfolding startsOf
 starts-length [] = refl
 starts-length (n ∷ ns) = omega (arith, starts-length ns)
@@ -111,12 +112,12 @@ unfolding nodesFrom startsOf
 starts-none stack next = refl
 
 -- there is room for a row of each node
-pub table-fits : 4 * nodeCeiling ≤ workWords
+pub table-fits : NODE-WORDS * nodeCeiling ≤ workWords
 unfolding nodeCeiling workWords
 table-fits = omega arith
 
 -- two words make a row
-pub space-row : (ws d : List ℕ) (m a b : ℕ) → m ≡ length ws → m + 4 ≤ workWords → set (set (spaceOf ws d) m a) (m + 1) b ≡ spaceOf (ws ++ startOf a b) d
+pub space-row : (ws d : List ℕ) (m a b : ℕ) → m ≡ length ws → m + NODE-WORDS ≤ workWords → set (set (spaceOf ws d) m a) (m + 1) b ≡ spaceOf (ws ++ startOf a b) d
 space-row ws d m a b e h =
     let l₁ : length (ws ++ a ∷ []) ≡ length ws + 1 = length-append ws (a ∷ []) in
     let l₂ : length (ws ++ a ∷ b ∷ []) ≡ length ws + 2 = length-append ws (a ∷ b ∷ []) in

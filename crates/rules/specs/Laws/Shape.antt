@@ -67,12 +67,6 @@ Opens [] count name = (count ≡ 0) × (length name ≡ 0)
 Opens (i ∷ is) count name = (nodeNameReads name ≡ true) × (length (i ∷ is) < openCeiling) × (count < nodeCeiling)
 
 module _ (rest : Walk → Verdict) (place : ℕ) where
-  -- a walk that passes is done, or goes on
-  pub after-passes : (s : Step) → after rest place s ≡ passes → (s ≡ done) ⊎ ((w : Walk) × (s ≡ go w) × (rest w ≡ passes))
-  after-passes (stop number) e = gives-refuses tt number place e
-  after-passes done e = inl refl
-  after-passes (go w) e = inr (w, refl, e)
-
   pub opening-passes : (stack : List ℕ) (count : ℕ) (ended : Bool) (name : Bytes)
       → after rest place (opening (record { stack = stack; count = count; ended = ended }) name) ≡ passes
       → (rest (record { stack = count ∷ stack; count = suc count; ended = false }) ≡ passes) × Opens stack count name

@@ -18,32 +18,33 @@ use Rattle.rules.specs.Reader.{eventsRead, treeRead, blobJudged, rowOf, 
 use Rattle.rules.specs.Laws.Shape.{some-nodes}
 use Rattle.rules.specs.Laws.Nested.{Nested, finished, root, child, holds, shuts, events-pass, events-nested}
 use Rattle.rules.specs.Laws.Formed.{accepted, read-formed, empty-name}
+use Rattle.rules.specs.Laws.Constants.{NODE-WORDS}
 
 -- ---- a row for each node
 
-row-length : (n : Node) → length (rowOf n) ≡ 4
+row-length : (n : Node) → length (rowOf n) ≡ NODE-WORDS
 unfolding rowOf
 row-length n = by (phandleOf n)
   where
-    by : (o : Option ℕ) → length {A = ℕ} (elim o [ none ↦ n .place ∷ n .parent ∷ 0 ∷ 0 ∷ [] | some v ↦ n .place ∷ n .parent ∷ 1 ∷ v ∷ [] ]) ≡ 4
+    by : (o : Option ℕ) → length {A = ℕ} (elim o [ none ↦ n .place ∷ n .parent ∷ 0 ∷ 0 ∷ [] | some v ↦ n .place ∷ n .parent ∷ 1 ∷ v ∷ [] ]) ≡ NODE-WORDS
     by none = refl
     by (some v) = refl
 
-pub rows-length : (t : Tree) → length (rowsOf t) ≡ 4 * length t
+pub rows-length : (t : Tree) → length (rowsOf t) ≡ NODE-WORDS * length t
 unfolding rowsOf
 rows-length [] = refl
 rows-length (n ∷ ns) = omega (arith, length-append (rowOf n) (rowsOf ns), row-length n, rows-length ns)
 
 -- the k-th word of node i's row
-pub row-word : (t : Tree) (i k : ℕ) → i < length t → k < 4 → getD (rowsOf t) (4 * i + k) 0 ≡ getD (rowOf (node t i)) k 0
+pub row-word : (t : Tree) (i k : ℕ) → i < length t → k < NODE-WORDS → getD (rowsOf t) (NODE-WORDS * i + k) 0 ≡ getD (rowOf (node t i)) k 0
 unfolding rowsOf
 row-word [] i k h l = absurd (let z : ⊥ = omega arith in z)
 row-word (n ∷ ns) zero k h l =
-    let e : 4 * 0 + k ≡ k = omega arith in
+    let e : NODE-WORDS * 0 + k ≡ k = omega arith in
     rw e (List·getD-append (rowOf n) (rowsOf ns) 0 k (omega (arith, row-length n)))
 row-word (n ∷ ns) (suc i) k h l =
-    let e : 4 * suc i + k ≡ length (rowOf n) + (4 * i + k) = omega (arith, row-length n) in
-    rw e (getD-append-add (rowOf n) (rowsOf ns) (4 * i + k) 0 ∙ row-word ns i k (omega arith) l)
+    let e : NODE-WORDS * suc i + k ≡ length (rowOf n) + (NODE-WORDS * i + k) = omega (arith, row-length n) in
+    rw e (getD-append-add (rowOf n) (rowsOf ns) (NODE-WORDS * i + k) 0 ∙ row-word ns i k (omega arith) l)
 
 row-begin : (n : Node) → (getD (rowOf n) 0 0 ≡ n .place) × (getD (rowOf n) 1 0 ≡ n .parent)
 unfolding rowOf
@@ -57,20 +58,20 @@ row-begin n = by (phandleOf n)
     by (some v) = (refl, refl)
 
 -- "BEGIN offset, parent's number"
-pub row-place : (t : Tree) (i : ℕ) → i < length t → getD (rowsOf t) (4 * i) 0 ≡ node t i .place
+pub row-place : (t : Tree) (i : ℕ) → i < length t → getD (rowsOf t) (NODE-WORDS * i) 0 ≡ node t i .place
 row-place t i h =
-    let e : 4 * i ≡ 4 * i + 0 = omega arith in
+    let e : NODE-WORDS * i ≡ NODE-WORDS * i + 0 = omega arith in
     ap (λ (k : ℕ). getD (rowsOf t) k 0) e ∙ row-word t i 0 h (omega arith) ∙ row-begin (node t i) .0
 
-pub row-parent : (t : Tree) (i : ℕ) → i < length t → getD (rowsOf t) (4 * i + 1) 0 ≡ node t i .parent
+pub row-parent : (t : Tree) (i : ℕ) → i < length t → getD (rowsOf t) (NODE-WORDS * i + 1) 0 ≡ node t i .parent
 row-parent t i h = row-word t i 1 h (omega arith) ∙ row-begin (node t i) .1
 
 -- "1 or 0 for a phandle, the phandle or 0"
-pub row-given : (t : Tree) (i v : ℕ) → i < length t → phandleOf (node t i) ≡ some v → (getD (rowsOf t) (4 * i + 2) 0 ≡ 1) × (getD (rowsOf t) (4 * i + 3) 0 ≡ v)
+pub row-given : (t : Tree) (i v : ℕ) → i < length t → phandleOf (node t i) ≡ some v → (getD (rowsOf t) (NODE-WORDS * i + 2) 0 ≡ 1) × (getD (rowsOf t) (NODE-WORDS * i + 3) 0 ≡ v)
 unfolding rowOf
 row-given t i v h e = (row-word t i 2 h (omega arith) ∙ rw (e, rowOf), row-word t i 3 h (omega arith) ∙ rw (e, rowOf))
 
-pub row-none : (t : Tree) (i : ℕ) → i < length t → phandleOf (node t i) ≡ none → (getD (rowsOf t) (4 * i + 2) 0 ≡ 0) × (getD (rowsOf t) (4 * i + 3) 0 ≡ 0)
+pub row-none : (t : Tree) (i : ℕ) → i < length t → phandleOf (node t i) ≡ none → (getD (rowsOf t) (NODE-WORDS * i + 2) 0 ≡ 0) × (getD (rowsOf t) (NODE-WORDS * i + 3) 0 ≡ 0)
 unfolding rowOf
 row-none t i h e = (row-word t i 2 h (omega arith) ∙ rw (e, rowOf), row-word t i 3 h (omega arith) ∙ rw (e, rowOf))
 
@@ -108,9 +109,9 @@ nodes-rooted b h = rooted refl (events-nested (eventsIn b) (events-pass b h))
 pub record Table (b : Bytes) : Type 0 where
   pub few : length (treeRead b) ≤ nodeCeiling
   pub rooted : Rooted (treeRead b)
-  pub up : (i : ℕ) → suc i < length (treeRead b) → getD (rowsOf (treeRead b)) (4 * suc i + 1) 0 < suc i
-  pub place : (i : ℕ) → i < length (treeRead b) → getD (rowsOf (treeRead b)) (4 * i) 0 ≡ node (treeRead b) i .place
-  pub parent : (i : ℕ) → i < length (treeRead b) → getD (rowsOf (treeRead b)) (4 * i + 1) 0 ≡ node (treeRead b) i .parent
+  pub up : (i : ℕ) → suc i < length (treeRead b) → getD (rowsOf (treeRead b)) (NODE-WORDS * suc i + 1) 0 < suc i
+  pub place : (i : ℕ) → i < length (treeRead b) → getD (rowsOf (treeRead b)) (NODE-WORDS * i) 0 ≡ node (treeRead b) i .place
+  pub parent : (i : ℕ) → i < length (treeRead b) → getD (rowsOf (treeRead b)) (NODE-WORDS * i + 1) 0 ≡ node (treeRead b) i .parent
 
 pub read-table : (b : Bytes) → blobJudged b ≡ passes → Table b
 unfolding treeRead eventsRead

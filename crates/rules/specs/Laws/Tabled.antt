@@ -12,7 +12,7 @@ use lib.Dec.{eqb}
 use lib.ListN.{length, getD, length-map, List·getD-eq-default}
 use borrow.Author.Tests.{eq-eqb, ne-eqb}
 use Rattle.rules.specs.Octets.{Bytes, if_then_else_, ascii}
-use Rattle.rules.specs.Blob.{Block}
+use Rattle.rules.specs.Blob.{Block, blockOf}
 use Rattle.rules.specs.Tokens.{tokenAt}
 use Rattle.rules.specs.Events.{Property, stringAt}
 use Rattle.rules.specs.Tree.{Node, Tree, node, nowhere, numbersFrom, propsOf}
@@ -22,12 +22,13 @@ use Rattle.rules.specs.declared.Token.the-variants.{Item, End, Cut}
 use Rattle.rules.specs.Laws.Lists.{length-numbers, map-at}
 use Rattle.rules.specs.Laws.Events.{eventsAt}
 use Rattle.rules.specs.Laws.References.{by-option, placeOf-lt}
+use Rattle.rules.specs.Laws.Constants.{NODE-WORDS}
 
 -- ---- a node
 
 -- word k of row i
 abbrev pub cell : List ℕ → (i k : ℕ) → ℕ
-cell ws i k = getD ws (4 * i + k) 0
+cell ws i k = getD ws (NODE-WORDS * i + k) 0
 
 abbrev pub propsBehind : Block → Token → List Property
 propsBehind b (Item kind next) = propsOf (eventsAt b next)
@@ -53,6 +54,10 @@ nodeIn b ws i = record {
 -- the first `count` rows
 unfoldable pub treeIn : Block → (words : List ℕ) (count : ℕ) → Tree
 treeIn b ws count = map (nodeIn b ws) (numbersFrom 0 count)
+
+-- the same, the block by its parts
+abbrev pub treeOf : (place : ℕ) (structure strings : Bytes) (words : List ℕ) (count : ℕ) → Tree
+treeOf place structure strings words count = treeIn (blockOf place structure strings) words count
 
 pub number-at : (from n i : ℕ) → i < n → getD (numbersFrom from n) i 0 ≡ from + i
 unfolding numbersFrom

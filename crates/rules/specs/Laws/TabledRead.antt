@@ -30,6 +30,7 @@ use Rattle.rules.specs.Laws.Table.{rows-length, row-place, row-parent, r
 use Rattle.rules.specs.Laws.Paths.{Formed}
 use Rattle.rules.specs.Laws.Formed.{read-formed}
 use Rattle.rules.specs.Laws.Tabled.{cell, propsBehind, propsAt, beginOf, nodeIn, treeIn, tree-length, node-in, phandleIn, phandlesFrom, lookIn, number-at}
+use Rattle.rules.specs.Laws.Constants.{NODE-WORDS}
 
 -- ---- a node stands where it says
 
@@ -91,14 +92,14 @@ module _ (b : Block) where
 
   -- the rows of these words are the rows of the tree
   abbrev pub Rows : List ℕ → Tree → Type 0
-  Rows ws t = (i k : ℕ) → i < length t → k < 4 → cell ws i k ≡ cell (rowsOf t) i k
+  Rows ws t = (i k : ℕ) → i < length t → k < NODE-WORDS → cell ws i k ≡ cell (rowsOf t) i k
 
   pub tree-said : (ws : List ℕ) → Rows ws (nodesOf (eventsIn b)) → treeIn b ws (length (nodesOf (eventsIn b))) ≡ nodesOf (eventsIn b)
   tree-said ws r =
       let t : Tree = nodesOf (eventsIn b) in
       ext-getD nowhere (treeIn b ws (length t)) t (tree-length b ws (length t) 0)
       (λ i h. let g : i < length t = omega (arith, tree-length b ws (length t) 0) in
-      let z : 4 * i + 0 ≡ 4 * i = omega arith in
+      let z : NODE-WORDS * i + 0 ≡ NODE-WORDS * i = omega arith in
       node-in b ws (length t) i g
       ∙ row-node ws i (node t i) (stood i g) (r i 0 g (omega arith) ∙ ap (λ (j : ℕ). getD (rowsOf t) j 0) z ∙ row-place t i g) (r i 1 g (omega arith) ∙ row-parent t i g))
 
@@ -136,7 +137,7 @@ read-rows b work h l i k g m =
     let t : Tree = treeRead b in
     let n = read-table b h .few in
     let e : readWork b work ≡ spaceOf (rowsOf t) work = rw (le-ltb (length work) workWords l, h) in
-    ap (λ (ws : List ℕ). cell ws i k) e ∙ space-get (rowsOf t) work (4 * i + k) (omega (arith, table-fits)) (omega (arith, table-fits, rows-length t))
+    ap (λ (ws : List ℕ). cell ws i k) e ∙ space-get (rowsOf t) work (NODE-WORDS * i + k) (omega (arith, table-fits)) (omega (arith, table-fits, rows-length t))
 
 module _ (b : Bytes) (work : List ℕ) (h : blobJudged b ≡ passes) (l : workWords ≤ length work) where
   pub tree-read : treeIn (blockIn b) (readWork b work) (length (treeRead b)) ≡ treeRead b

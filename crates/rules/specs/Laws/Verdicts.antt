@@ -24,10 +24,6 @@ pub one-passes : (fails : Bool) (number place : ℕ) → one fails number place 
 one-passes true number place e = gives-refuses tt number place e
 one-passes false number place e = refl
 
--- the same judgements one after the other
-pub then-same : {A : Type 0} (v w : Verdict) (o p : Outcome A) → v ≡ w → o ≡ p → (v then o) ≡ (w then p)
-then-same v w o p e f = rw (e, f)
-
 -- ---- one after the other
 
 pub then-end : (v : Verdict) → (v then passes) ≡ v

@@ -1,10 +1,9 @@
 -- `closing` meets its contract.
-use mathlib.Core.Path.{_≡_, refl}
+use mathlib.Core.Path.{refl}
 use native.Mathlib.Omega.{arith}
 use Rattle.rules.specs.Laws.Events.{closing-none, closing-some}
 use Rattle.shape.specs.declared.Refusal.the-variants.{Shape}
 use Rattle.shape.proofs.Steps.{stops, closes}
-use borrow.Author.Needs.{needs}
 use Rattle.shape.proofs.closing.Statement.{statement}
 use Rattle.shape.proofs.closing.Tie as tie
 

@@ -1,5 +1,5 @@
 -- `end` meets its contract: one fault after the other.
-use mathlib.Core.Path.{_≡_, sym, _∙_, subst}
+use mathlib.Core.Path.{sym, _∙_, subst}
 use native.Mathlib.Omega.{arith}
 use borrow.Author.Tests.{eq-eqb, ne-eqb}
 use Rattle.rules.specs.Laws.Events.{ending-none, ending-some}

@@ -1,10 +1,9 @@
 -- `holding` meets its contract: one refusal after the other.
-use mathlib.Core.Path.{_≡_, refl, _∙_}
+use mathlib.Core.Path.{refl, _∙_}
 use native.Mathlib.Omega.{arith}
 use Rattle.rules.specs.Laws.Events.{holding-none, holding-some}
 use Rattle.shape.specs.declared.Refusal.the-variants.{Shape, Name}
 use Rattle.shape.proofs.Steps.{stops, stays}
-use borrow.Author.Needs.{needs}
 use Rattle.shape.proofs.holding.Statement.{statement}
 use Rattle.shape.proofs.holding.Tie as tie
 

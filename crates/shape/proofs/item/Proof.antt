@@ -1,12 +1,12 @@
 -- `item` meets its contract: each kind by the function that judges it.
-use mathlib.Core.Path.{_≡_, refl, sym, ap, _∙_, subst}
+use mathlib.Core.Path.{refl, sym, subst}
 use mathlib.Core.Bool.{Bool}
 use denote.Ref.{now}
 use Rattle.rules.specs.Octets.{Bytes}
 use Rattle.rules.specs.Events.{opening, closing, holding}
 use Rattle.rules.specs.Events as events
 use Rattle.rules.specs.declared.Kind.{Kind}
-use Rattle.shape.specs.declared.Turn.the-variants.{Opens, Closes, Stays}
+use Rattle.shape.specs.declared.Turn.the-variants.{Opens, Stays}
 use Rattle.shape.specs.Shape.{Does, DoesItem}
 use Rattle.shape.proofs.Steps.{stays}
 use borrow.Author.Needs.{needs}

@@ -1,26 +1,27 @@
 -- `judge` meets its contract. The invariant: the rest of the walk is the whole walk, and the work space holds the rows so far.
-use mathlib.Core.Path.{_≡_, sym, subst}
-use Prim.Native.Nat.{_+_, _-_, _*_, _≤_, _<_}
+use mathlib.Core.Path.{sym, subst}
+use Prim.Native.Nat.{_+_, _-_, _*_}
 use native.Mathlib.Omega.{arith}
 use lib.ListN.{length, set, length-set}
 use denote.Ref.{now}
-use Rattle.rules.specs.Ceilings.{blobCeiling, workWords, nodeCeiling}
+use Rattle.rules.specs.Ceilings.{blobCeiling, nodeCeiling}
+use Rattle.rules.specs.Blob.{blockOf}
 use Rattle.rules.specs.Laws.Reader.{table-fits}
+use Rattle.rules.specs.Laws.Constants.{NODE-WORDS}
 use Rattle.shape.specs.declared.Walk.{Walk}
-use Rattle.shape.specs.Shape.{blockOf}
 use Rattle.shape.proofs.Walks.{Inv, starts, as-long, node-small, ahead, at-stop, opens-room, closes-room, closes-node, at-open, at-close, at-stay, at-end}
 use borrow.Author.Needs.{needs}
 use Rattle.shape.proofs.judge.Statement.{statement}
 use Rattle.shape.proofs.judge.Tie as tie
 
 abbrev Inv-loop : tie.InvT-loop
-Inv-loop structure strings place work₀ at₀ w₀ work at w = Inv (blockOf structure strings place) work₀ work at w
+Inv-loop structure strings place work₀ at₀ w₀ work at w = Inv (blockOf place structure strings) work₀ work at w
 
 abbrev μ-loop : tie.MeasureT-loop
 μ-loop structure strings place work₀ at₀ w₀ work at w = length structure - at
 
 loop-holds : tie.Need-loop-holds Inv-loop μ-loop
-loop-holds c = starts (blockOf (now (c .before .before .before .args .structure)) (now (c .before .before .before .args .strings)) (c .before .before .before .args .place)) (now (c .before .before .before .args .work)) (c .before .before .before .pre .1 .1)
+loop-holds c = starts (blockOf (c .before .before .before .args .place) (now (c .before .before .before .args .structure)) (now (c .before .before .before .args .strings))) (now (c .before .before .before .args .work)) (c .before .before .before .pre .1 .1)
 
 token-at-requires : tie.Need-token-at-requires Inv-loop μ-loop
 token-at-requires c κs = search needs
@@ -97,7 +98,7 @@ loop-less c = omega (arith, ahead (c .before .before .before .before .before .be
 
 loop-again : tie.Need-loop-again Inv-loop μ-loop
 loop-again c =
-    subst (λ (u : Walk). Inv (blockOf (now (c .before .before .before .before .before .before .before .before .before .before .before .before .before .before .args .structure)) (now (c .before .before .before .before .before .before .before .before .before .before .before .before .before .before .args .strings)) (c .before .before .before .before .before .before .before .before .before .before .before .before .before .before .args .place)) (now (c .before .before .before .before .before .before .before .before .before .before .before .before .before .before .args .work)) (set (set (c .before .before .before .before .before .before .before .before .before .before .loop .work) (4 * c .before .before .before .before .before .before .before .before .before .before .loop .w .count) (c .before .before .before .before .before .before .before .before .before .before .before .before .before .before .args .place + c .before .before .before .before .before .before .before .before .before .before .loop .at)) (4 * c .before .before .before .before .before .before .before .before .before .before .loop .w .count + 1) (c .before .before .before .before .before .before .before .before .before .before .loop .w .node)) (c .before .before .before .before .before .before .before .token .given .0 .1 .0) u) (sym (c .opened .ensures))
+    subst (λ (u : Walk). Inv (blockOf (c .before .before .before .before .before .before .before .before .before .before .before .before .before .before .args .place) (now (c .before .before .before .before .before .before .before .before .before .before .before .before .before .before .args .structure)) (now (c .before .before .before .before .before .before .before .before .before .before .before .before .before .before .args .strings))) (now (c .before .before .before .before .before .before .before .before .before .before .before .before .before .before .args .work)) (set (set (c .before .before .before .before .before .before .before .before .before .before .loop .work) (NODE-WORDS * c .before .before .before .before .before .before .before .before .before .before .loop .w .count) (c .before .before .before .before .before .before .before .before .before .before .before .before .before .before .args .place + c .before .before .before .before .before .before .before .before .before .before .loop .at)) (NODE-WORDS * c .before .before .before .before .before .before .before .before .before .before .loop .w .count + 1) (c .before .before .before .before .before .before .before .before .before .before .loop .w .node)) (c .before .before .before .before .before .before .before .token .given .0 .1 .0) u) (sym (c .opened .ensures))
     (at-open (c .before .before .before .before .before .before .before .before .before .before .loop .inv) (c .before .before .before .before .before .before .before .before .before .token-at .ensures) (c .before .before .before .before .before .before .before .token .given .1) (c .before .before .before .before .before .item .ensures) (c .before .before .before .enum-told .given .1))
 
 enum-told-2 : tie.Need-enum-told-2 Inv-loop μ-loop
@@ -119,7 +120,7 @@ slice-read-parent : tie.Need-slice-read-parent Inv-loop μ-loop
 slice-read-parent c = omega (arith, closes-node (c .before .before .before .before .before .before .before .before .before .loop .inv) (c .before .before .before .before .before .before .before .before .token-at .ensures) (c .before .before .before .before .before .before .token .given .1) (c .before .before .before .before .item .ensures) (c .before .before .enum-told2 .given .1), table-fits, as-long (c .before .before .before .before .before .before .before .before .before .loop .inv) (c .before .before .before .before .before .before .before .before .before .before .before .before .before .pre .1 .0), c .before .before .before .before .before .before .before .before .before .before .before .before .before .pre .1 .0)
 
 cast-parent : tie.Need-cast-parent Inv-loop μ-loop
-cast-parent c = omega (arith, c .slice-known2 .given (4 * c .before .before .before .before .before .before .before .before .before .loop .w .node + 1))
+cast-parent c = omega (arith, c .slice-known2 .given (NODE-WORDS * c .before .before .before .before .before .before .before .before .before .loop .w .node + 1))
 
 closed-requires : tie.Need-closed-requires Inv-loop μ-loop
 closed-requires c κs = closes-room (c .before .before .before .before .before .before .before .before .before .loop .inv) (c .before .before .before .before .before .before .before .before .token-at .ensures) (c .before .before .before .before .before .before .token .given .1) (c .before .before .before .before .item .ensures) (c .before .before .enum-told2 .given .1)
@@ -129,7 +130,7 @@ loop-less-2 c = omega (arith, ahead (c .before .before .before .before .before .
 
 loop-again-2 : tie.Need-loop-again-2 Inv-loop μ-loop
 loop-again-2 c =
-    subst (λ (u : Walk). Inv (blockOf (now (c .before .before .before .before .before .before .before .before .before .before .before .before .before .before .args .structure)) (now (c .before .before .before .before .before .before .before .before .before .before .before .before .before .before .args .strings)) (c .before .before .before .before .before .before .before .before .before .before .before .before .before .before .args .place)) (now (c .before .before .before .before .before .before .before .before .before .before .before .before .before .before .args .work)) (c .before .before .before .before .before .before .before .before .before .before .loop .work) (c .before .before .before .before .before .before .before .token .given .0 .1 .0) u) (sym (c .closed .ensures))
+    subst (λ (u : Walk). Inv (blockOf (c .before .before .before .before .before .before .before .before .before .before .before .before .before .before .args .place) (now (c .before .before .before .before .before .before .before .before .before .before .before .before .before .before .args .structure)) (now (c .before .before .before .before .before .before .before .before .before .before .before .before .before .before .args .strings))) (now (c .before .before .before .before .before .before .before .before .before .before .before .before .before .before .args .work)) (c .before .before .before .before .before .before .before .before .before .before .loop .work) (c .before .before .before .before .before .before .before .token .given .0 .1 .0) u) (sym (c .closed .ensures))
     (at-close (c .before .before .before .before .before .before .before .before .before .before .loop .inv) (c .before .before .before .before .before .before .before .before .before .token-at .ensures) (c .before .before .before .before .before .before .before .token .given .1) (c .before .before .before .before .before .item .ensures) (c .before .before .before .enum-told2 .given .1))
 
 enum-told-3 : tie.Need-enum-told-3 Inv-loop μ-loop

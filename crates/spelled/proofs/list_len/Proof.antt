@@ -1,13 +1,14 @@
 -- `list_len` meets its contract. The invariant: the paths of the first k nodes are counted.
-use mathlib.Core.Path.{_≡_, sym, ap, _∙_}
 use mathlib.Core.List.{[]}
+use mathlib.Core.Path.{_≡_, sym, ap, _∙_}
 use Prim.Native.Nat.{ℕ, _+_, _-_, _*_, _≤_}
 use native.Mathlib.Omega.{arith}
 use lib.ListN.{length}
 use denote.Ref.{now}
 use Rattle.rules.specs.Octets.{Bytes}
-use Rattle.rules.specs.Laws.Kept.{node-word, list-at, word-in-part, longest}
-use Rattle.paths.specs.Trees.{treeOf}
+use Rattle.rules.specs.Laws.Kept.{node-word, word-in-part, longest}
+use Rattle.rules.specs.Laws.Tabled.{treeOf}
+use Rattle.rules.specs.Laws.Constants.{list-at}
 use Rattle.spelled.specs.Lists.{listBytes}
 use Rattle.spelled.proofs.Spelt.{path-short, sum-more, sum-fits, length-more, bytes-none}
 use borrow.Author.Needs.{needs}

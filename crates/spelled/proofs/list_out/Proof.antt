@@ -1,14 +1,15 @@
 -- `list_out` meets its contract. The invariant: the paths of the first k nodes are laid.
-use mathlib.Core.Path.{_≡_, refl, sym, ap, _∙_}
 use mathlib.Core.List.{[]}
+use mathlib.Core.Path.{_≡_, refl, sym, ap, _∙_}
 use Prim.Native.Nat.{ℕ, _+_, _-_, _*_, _≤_}
 use native.Mathlib.Omega.{arith}
 use lib.ListN.{length}
 use denote.Ref.{now}
 use Rattle.rules.specs.Octets.{Bytes, lay}
 use Rattle.rules.specs.Laws.Octets.{lay-nil, length-lay}
-use Rattle.rules.specs.Laws.Kept.{node-word, list-at, word-in-part, longest}
-use Rattle.paths.specs.Trees.{treeOf}
+use Rattle.rules.specs.Laws.Kept.{node-word, word-in-part, longest}
+use Rattle.rules.specs.Laws.Tabled.{treeOf}
+use Rattle.rules.specs.Laws.Constants.{list-at}
 use Rattle.spelled.specs.Lists.{listBytes}
 use Rattle.spelled.proofs.Spelt.{path-short, sum-more, sum-fits, length-more, laid-more, bytes-none}
 use borrow.Author.Needs.{needs}

@@ -1,7 +1,6 @@
 -- `begin_at` meets its contract: the name ends inside, so that no sum wraps.
-use Prim.Native.Nat.{_+_, _≤_}
 use native.Mathlib.Omega.{arith}
-use lib.ListN.{length, drop, length-drop}
+use lib.ListN.{drop, length-drop}
 use denote.Ref.{now}
 use borrow.Author.Tests.{le-leb, lt-leb}
 use Rattle.rules.specs.Tokens.{beginAt}

@@ -4,7 +4,7 @@ use denote.Ref.{now}
 use borrow.Author.Tests.{not-true, not-false}
 use Rattle.rules.specs.Octets.{Bytes, ascii, same, begins}
 use Rattle.rules.specs.Tree.{frame}
-use Rattle.paths.specs.Trees.{treeOf}
+use Rattle.rules.specs.Laws.Tabled.{treeOf}
 use Rattle.cpus.proofs.Searches.{child-elsewhere, child-plain, child-begins}
 use borrow.Author.Needs.{needs}
 use Rattle.cpus.proofs.children.cpu_child.Statement.{statement}

@@ -3,7 +3,7 @@ use mathlib.Core.Path.{sym, ap, _∙_}
 use denote.Ref.{now}
 use Rattle.rules.specs.Octets.{Bytes, ascii, same}
 use Rattle.rules.specs.Tree.{frame}
-use Rattle.paths.specs.Trees.{treeOf}
+use Rattle.rules.specs.Laws.Tabled.{treeOf}
 use Rattle.cpus.proofs.Searches.{cpus-root, cpus-deep, cpus-named}
 use borrow.Author.Needs.{needs}
 use Rattle.cpus.proofs.children.is_cpus.Statement.{statement}

@@ -7,10 +7,10 @@ use denote.Ref.{now}
 use borrow.Author.Tests.{not-true, not-false}
 use Rattle.rules.specs.Tree.{node, frame}
 use Rattle.rules.specs.Copy.{cpuChild, regOf, isId}
-use Rattle.paths.specs.Trees.{treeOf}
 use Rattle.cpus.specs.Registers.{meaning}
 use Rattle.cpus.proofs.Searches.{no-child, the-child}
 use Rattle.rules.specs.Copy.{stranger}
+use Rattle.rules.specs.Laws.Tabled.{treeOf}
 use borrow.Author.Needs.{needs}
 use Rattle.cpus.proofs.children.stranger.Statement.{statement}
 use Rattle.cpus.proofs.children.stranger.Tie as tie

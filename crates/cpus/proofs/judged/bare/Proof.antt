@@ -6,7 +6,7 @@ use borrow.Author.Tests.{not-true, not-false}
 use Rattle.rules.specs.Blob.{missing}
 use Rattle.rules.specs.Tree.{node, frame}
 use Rattle.rules.specs.Copy.{cpuChild, regOf}
-use Rattle.paths.specs.Trees.{treeOf}
+use Rattle.rules.specs.Laws.Tabled.{treeOf}
 use Rattle.cpus.specs.Registers.{meaning}
 use Rattle.cpus.proofs.Searches.{no-child, the-child}
 use borrow.Author.Needs.{needs}

@@ -6,7 +6,7 @@ use native.Mathlib.Nat.{sub-zero}
 use denote.Ref.{now}
 use Rattle.rules.specs.Tree.{numbersFrom}
 use Rattle.rules.specs.Derivation.{cpusFrom}
-use Rattle.paths.specs.Trees.{treeOf}
+use Rattle.rules.specs.Laws.Tabled.{treeOf}
 use Rattle.cpus.proofs.Searches.{cpus-stop, cpus-on, cpus-last}
 use borrow.Author.Needs.{needs}
 use Rattle.cpus.proofs.judged.cpus_judged.Statement.{statement}

@@ -6,7 +6,7 @@ use lib.ListN.{length, drop}
 use denote.Ref.{now}
 use borrow.Author.Tests.{not-true, not-false}
 use Rattle.rules.specs.Derivation.{idsFrom}
-use Rattle.paths.specs.Trees.{treeOf}
+use Rattle.rules.specs.Laws.Tabled.{treeOf}
 use Rattle.cpus.proofs.Searches.{ids-unmet, ids-met, ids-end}
 use borrow.Author.Needs.{needs}
 use Rattle.cpus.proofs.judged.ids_judged.Statement.{statement}

@@ -4,7 +4,7 @@ use Prim.Native.Nat.{_-_}
 use native.Mathlib.Omega.{arith}
 use denote.Ref.{now}
 use Rattle.rules.specs.Derivation.{met}
-use Rattle.paths.specs.Trees.{treeOf}
+use Rattle.rules.specs.Laws.Tabled.{treeOf}
 use Rattle.cpus.proofs.Searches.{metFrom, met-first, met-stop, met-on, met-last}
 use borrow.Author.Needs.{needs}
 use Rattle.cpus.proofs.judged.met.Statement.{statement}

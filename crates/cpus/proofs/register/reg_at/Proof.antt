@@ -4,10 +4,10 @@ use Prim.Native.Nat.{ℕ, _-_}
 use native.Mathlib.Omega.{arith}
 use denote.Ref.{now}
 use Rattle.rules.specs.Laws.Tabled.{propsAt}
-use Rattle.references.specs.Cells.{blockOf}
 use Rattle.cpus.specs.Registers.{meaning, regIn}
 use Rattle.cpus.proofs.Registers.{reg-past, reg-row}
 use borrow.Author.Needs.{needs}
+use Rattle.rules.specs.Blob.{blockOf}
 use Rattle.cpus.proofs.register.reg_at.Statement.{statement}
 use Rattle.cpus.proofs.register.reg_at.Tie as tie
 

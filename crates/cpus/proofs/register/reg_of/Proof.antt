@@ -6,10 +6,10 @@ use lib.ListN.{length}
 use denote.Ref.{now}
 use Rattle.rules.specs.Laws.Tokens.{item-ahead}
 use Rattle.rules.specs.Laws.Tabled.{propsAt}
-use Rattle.references.specs.Cells.{blockOf}
 use Rattle.cpus.specs.Registers.{regIn}
 use Rattle.cpus.proofs.Registers.{regAt, reg-first, reg-nowhere, reg-stop, reg-value, reg-done, reg-on}
 use borrow.Author.Needs.{needs}
+use Rattle.rules.specs.Blob.{blockOf}
 use Rattle.cpus.proofs.register.reg_of.Statement.{statement}
 use Rattle.cpus.proofs.register.reg_of.Tie as tie
 

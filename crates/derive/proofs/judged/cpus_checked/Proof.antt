@@ -1,10 +1,10 @@
 -- `cpus_checked` meets its contract.
 use mathlib.Core.Path.{sym, ap, _∙_}
 use denote.Ref.{now}
-use Rattle.paths.specs.Trees.{treeOf}
 use Rattle.cpus.specs.Answers.{refusedBy}
 use Rattle.derive.proofs.Checks.{no-ids, bad-cpu, bad-id, good-ids}
 use borrow.Author.Needs.{needs}
+use Rattle.rules.specs.Laws.Tabled.{treeOf}
 use Rattle.derive.proofs.judged.cpus_checked.Statement.{statement}
 use Rattle.derive.proofs.judged.cpus_checked.Tie as tie
 

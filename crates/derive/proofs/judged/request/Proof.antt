@@ -5,7 +5,7 @@ use lib.ListN.{length}
 use denote.Ref.{now}
 use Rattle.rules.specs.Laws.Octets.{length-lay}
 use Rattle.rules.specs.Laws.Given.{lists-few}
-use Rattle.paths.specs.Trees.{treeOf}
+use Rattle.rules.specs.Laws.Tabled.{treeOf}
 use Rattle.given.specs.Answers.{meaning as gmeaning}
 use Rattle.asked.specs.Answers.{meaning as ameaning}
 use Rattle.derive.proofs.Checks.{checks-lists, checks-named, checks-whole}

@@ -1,6 +1,6 @@
 -- `marked` meets its contract.
 use denote.Ref.{now}
-use Rattle.references.specs.Cells.{blockOf}
+use Rattle.rules.specs.Blob.{blockOf}
 use Rattle.derive.proofs.Marks.{listed-kept, listed-inside, marks-joined}
 use Rattle.derive.proofs.marked.marked.Statement.{statement}
 use Rattle.derive.proofs.marked.marked.Tie as tie

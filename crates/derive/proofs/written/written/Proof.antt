@@ -3,9 +3,9 @@ use mathlib.Core.Path.{refl}
 use native.Mathlib.Omega.{arith}
 use lib.ListN.{length}
 use denote.Ref.{now}
-use Rattle.references.specs.Cells.{blockOf}
 use Rattle.derive.proofs.Writing.{no-list, no-guest, both-granted, granted-guest, ready, ready-first, rest-is, writes-45, writes-46, guest-room, writes-both}
 use borrow.Author.Needs.{needs}
+use Rattle.rules.specs.Blob.{blockOf}
 use Rattle.derive.proofs.written.written.Statement.{statement}
 use Rattle.derive.proofs.written.written.Tie as tie
 

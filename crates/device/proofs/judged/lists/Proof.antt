@@ -1,13 +1,13 @@
 -- `lists` meets its contract: the lists, and then the configured paths.
-use mathlib.Core.Path.{refl, sym, ap, _∙_}
 use mathlib.Core.List.{[]}
+use mathlib.Core.Path.{refl, sym, ap, _∙_}
 use native.Mathlib.Omega.{arith}
 use lib.ListN.{length}
 use denote.Ref.{now}
 use Rattle.rules.specs.Device.{wanted}
 use Rattle.rules.specs.Laws.Octets.{length-lay}
 use Rattle.rules.specs.Laws.Given.{lists-few}
-use Rattle.paths.specs.Trees.{treeOf}
+use Rattle.rules.specs.Laws.Tabled.{treeOf}
 use Rattle.given.specs.Answers.{meaning as gmeaning}
 use Rattle.asked.specs.Answers.{meaning as ameaning}
 use Rattle.device.proofs.Checks.{checks-lists, checks-named, checks-whole}

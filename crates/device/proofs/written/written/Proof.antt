@@ -2,9 +2,9 @@
 use mathlib.Core.Path.{refl}
 use native.Mathlib.Omega.{arith}
 use denote.Ref.{now}
-use Rattle.references.specs.Cells.{blockOf}
 use Rattle.device.proofs.Writing.{writes-45, writes-list}
 use borrow.Author.Needs.{needs}
+use Rattle.rules.specs.Blob.{blockOf}
 use Rattle.device.proofs.written.written.Statement.{statement}
 use Rattle.device.proofs.written.written.Tie as tie
 

@@ -1,7 +1,6 @@
 -- `doubled_props` meets its contract.
-use mathlib.Core.Path.{_≡_, refl, sym, _∙_}
+use mathlib.Core.Path.{refl, _∙_}
 use native.Mathlib.Omega.{arith}
-use lib.ListN.{length}
 use denote.Ref.{now}
 use Rattle.rules.specs.Ceilings.{workWords}
 use Rattle.doubled.specs.Sorted.{taken}

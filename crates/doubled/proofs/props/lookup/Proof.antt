@@ -1,12 +1,11 @@
 -- `lookup` meets its contract.
-use mathlib.Core.Path.{_≡_, refl, sym, ap, _∙_}
-use mathlib.Core.Bool.{Bool, true, false}
+use mathlib.Core.Path.{_≡_, ap, _∙_}
 use Prim.Native.Nat.{ℕ, _+_, _-_, _≤_}
 use native.Mathlib.Omega.{arith}
 use lib.ListN.{length}
 use denote.Ref.{now}
 use Rattle.rules.specs.Ceilings.{workWords}
-use Rattle.rules.specs.Octets.{Bytes, part}
+use Rattle.rules.specs.Octets.{part}
 use Rattle.rules.specs.Events.{stringAt}
 use Rattle.doubled.specs.Passes.{propsAt}
 use Rattle.doubled.specs.Sorted.{chunkRoom, keyBelow}

@@ -1,6 +1,6 @@
 -- `comes_before` meets its contract. The invariant: what is left is in the order that the whole is in.
 use mathlib.Core.Path.{_≡_, refl}
-use Prim.Native.Nat.{ℕ, _-_}
+use Prim.Native.Nat.{_-_}
 use native.Mathlib.Omega.{arith}
 use lib.ListN.{length, drop}
 use denote.Ref.{now}

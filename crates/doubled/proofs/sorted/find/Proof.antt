@@ -1,9 +1,8 @@
 -- `find` meets its contract.
-use mathlib.Core.Path.{_≡_, sym, _∙_}
+use mathlib.Core.Path.{sym, _∙_}
 use native.Mathlib.Omega.{arith}
 use denote.Ref.{now}
 use Rattle.doubled.proofs.Chunks.{key-hit, fresh-at}
-use borrow.Author.Needs.{needs}
 use Rattle.doubled.proofs.sorted.find.Statement.{statement}
 use Rattle.doubled.proofs.sorted.find.Tie as tie
 

@@ -1,11 +1,9 @@
 -- `insert` meets its contract. The invariant: those from i on have moved up, and the others are as they were.
-use mathlib.Core.Path.{_≡_, refl, ap, _∙_}
-use mathlib.Core.Logic.{_⊎_, inl, inr}
-use Prim.Native.Nat.{ℕ, _+_, _-_, _≤_, _<_}
+use mathlib.Core.Path.{_≡_, refl}
+use Prim.Native.Nat.{_-_, _≤_}
 use native.Mathlib.Omega.{arith}
-use lib.ListN.{length, getD, length-set}
+use lib.ListN.{length, length-set}
 use denote.Ref.{now}
-use Rattle.doubled.specs.Sorted.{chunkStart}
 use Rattle.doubled.proofs.Chunks.{Moved, moved-start, moved-more, moved-done}
 use borrow.Author.Needs.{needs}
 use Rattle.doubled.proofs.sorted.insert.Statement.{statement}

@@ -1,11 +1,11 @@
 -- `key_before` meets its contract.
-use mathlib.Core.Path.{_≡_, ap, _∙_}
+use mathlib.Core.Path.{ap, _∙_}
 use mathlib.Core.List.{List}
 use Prim.Native.Nat.{ℕ, _+_}
 use native.Mathlib.Omega.{arith}
 use lib.ListN.{getD}
 use denote.Ref.{now}
-use Rattle.rules.specs.Octets.{before, same, part}
+use Rattle.rules.specs.Octets.{before, part}
 use Rattle.rules.specs.Events.{stringAt}
 use Rattle.doubled.specs.Sorted.{chunkStart}
 use borrow.Author.Needs.{needs}

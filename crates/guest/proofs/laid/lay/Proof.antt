@@ -4,7 +4,8 @@ use native.Mathlib.Omega.{arith}
 use denote.Ref.{now}
 use borrow.Author.Tests.{not-true, not-false}
 use Rattle.rules.specs.Ceilings.{blobCeiling}
-use Rattle.guest.specs.Walked.{blockOf, marked}
+use Rattle.rules.specs.Blob.{blockOf}
+use Rattle.guest.specs.Walked.{marked}
 use Rattle.guest.proofs.Filled.{lay-none, lay-nop, lay-begin, lay-end, prop-fits, lay-prop}
 use borrow.Author.Needs.{needs}
 use Rattle.guest.proofs.laid.lay.Statement.{statement}

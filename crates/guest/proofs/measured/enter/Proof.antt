@@ -1,7 +1,8 @@
 -- `enter` meets its contract: with room a word more, and without nothing.
 use native.Mathlib.Omega.{arith}
 use denote.Ref.{now}
-use Rattle.rules.specs.Laws.Kept.{work-words, stack-at, put-in-part}
+use Rattle.rules.specs.Laws.Kept.{put-in-part}
+use Rattle.rules.specs.Laws.Constants.{work-words, stack-at}
 use Rattle.guest.proofs.Noted.{enter-room, enter-full, space}
 use borrow.Author.Needs.{needs}
 use Rattle.guest.proofs.measured.enter.Statement.{statement}

@@ -6,8 +6,9 @@ use native.Mathlib.Omega.{arith}
 use lib.ListN.{length, take}
 use denote.Ref.{now}
 use Rattle.rules.specs.Octets.{Bytes}
+use Rattle.rules.specs.Blob.{blockOf}
 use Rattle.rules.specs.Laws.Tokens.{item-ahead}
-use Rattle.guest.specs.Walked.{blockOf, marked}
+use Rattle.guest.specs.Walked.{marked}
 use Rattle.guest.specs.Measured.{isIn, namesIn}
 use Rattle.guest.proofs.Sifts.{names-all}
 use Rattle.guest.proofs.Noted.{search-done}

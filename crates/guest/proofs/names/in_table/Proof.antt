@@ -3,8 +3,9 @@ use mathlib.Core.Path.{_≡_, refl, sym, _∙_}
 use Prim.Native.Nat.{_-_, _≤_}
 use native.Mathlib.Omega.{arith}
 use denote.Ref.{now}
-use Rattle.rules.specs.Laws.Kept.{work-words, stack-at, word-in-part}
+use Rattle.rules.specs.Laws.Kept.{word-in-part}
 use Rattle.rules.specs.Events.{stringAt}
+use Rattle.rules.specs.Laws.Constants.{work-words, stack-at}
 use Rattle.guest.specs.Measured.{inTable, tableRoom}
 use Rattle.guest.proofs.Noted.{table-none, table-hit, table-miss, space}
 use borrow.Author.Needs.{needs}

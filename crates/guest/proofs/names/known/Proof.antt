@@ -5,7 +5,7 @@ use lib.ListN.{take}
 use denote.Ref.{now}
 use Rattle.rules.specs.Octets.{Bytes}
 use Rattle.rules.specs.Events.{stringAt}
-use Rattle.rules.specs.Laws.Kept.{work-words, stack-at}
+use Rattle.rules.specs.Laws.Constants.{work-words, stack-at}
 use Rattle.guest.specs.Measured.{isIn, namesIn}
 use Rattle.guest.proofs.Noted.{known-table, known-not, space}
 use borrow.Author.Needs.{needs}

@@ -1,7 +1,8 @@
 -- `marked` meets its contract: past the ceiling no node is marked.
 use native.Mathlib.Omega.{arith}
 use denote.Ref.{now}
-use Rattle.rules.specs.Laws.Kept.{node-ceiling, marks-at, word-in-part}
+use Rattle.rules.specs.Laws.Kept.{word-in-part}
+use Rattle.rules.specs.Laws.Constants.{node-ceiling, marks-at}
 use Rattle.guest.proofs.Marks.{mark-here, mark-past}
 use borrow.Author.Needs.{needs}
 use Rattle.guest.proofs.walk.marked.Statement.{statement}

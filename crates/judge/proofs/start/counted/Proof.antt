@@ -1,6 +1,5 @@
 -- `counted` meets its contract.
 use native.Mathlib.Omega.{arith}
-use borrow.Author.Needs.{needs}
 use Rattle.judge.proofs.start.counted.Statement.{statement}
 use Rattle.judge.proofs.start.counted.Tie as tie
 

@@ -1,8 +1,7 @@
 -- `judge_start` meets its contract: the first test that fails.
-use mathlib.Core.Path.{_≡_, refl, sym, ap, _∙_}
+use mathlib.Core.Path.{_≡_, sym, ap, _∙_}
 use mathlib.Core.Bool.{true, false}
-use Prim.Native.Nat.{ℕ, _+_, _*_}
-use native.Mathlib.Omega.{arith}
+use Prim.Native.Nat.{_+_}
 use native.Mathlib.Nat.{zero-add}
 use lib.Dec.{ltb}
 use lib.ListN.{length, take}

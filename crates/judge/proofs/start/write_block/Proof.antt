@@ -1,5 +1,5 @@
 -- `write_block` meets its contract. The invariant: i reservations are laid in.
-use mathlib.Core.Path.{_≡_, refl, sym, ap, _∙_}
+use mathlib.Core.Path.{_≡_, refl, sym, _∙_}
 use mathlib.Core.List.{_++_}
 use Prim.Native.Nat.{_+_, _*_, _-_, _≤_}
 use native.Mathlib.Nat.{le-antisymm}
@@ -8,7 +8,7 @@ use lib.ListN.{length, take, getD}
 use denote.Ref.{now}
 use Rattle.rules.specs.Octets.{be64, zeros, lay}
 use Rattle.rules.specs.Reservations.{entryBytes}
-use Rattle.rules.specs.Laws.Octets.{lay-nil, length-lay, length-be64}
+use Rattle.rules.specs.Laws.Octets.{lay-nil, length-be64}
 use Rattle.rules.specs.Laws.Writer.{laid-on}
 use Rattle.reservation.specs.Made.{entriesOf}
 use Rattle.judge.proofs.Starts.{nowhere, entries-more, entries-length, block-bytes}

@@ -6,7 +6,8 @@ use native.Mathlib.Omega.{arith}
 use denote.Ref.{now}
 use Rattle.rules.specs.Octets.{lay}
 use Rattle.rules.specs.Space.{marksAt}
-use Rattle.rules.specs.Laws.Kept.{node-word, marks-at}
+use Rattle.rules.specs.Laws.Kept.{node-word}
+use Rattle.rules.specs.Laws.Constants.{marks-at}
 use Rattle.listing.proofs.Gained.{Clearing, clearing-none, clearing-more, cleared}
 use borrow.Author.Needs.{needs}
 use Rattle.listing.proofs.given.clear_marks.Statement.{statement}

@@ -1,11 +1,12 @@
 -- `list` meets its contract: the node is known, or it is entered.
-use mathlib.Core.Path.{sym, ap, _∙_}
 use mathlib.Core.List.{[]}
+use mathlib.Core.Path.{sym, ap, _∙_}
 use Prim.Native.Nat.{ℕ, _+_}
 use native.Mathlib.Omega.{arith}
 use lib.ListN.{getD}
 use denote.Ref.{now}
-use Rattle.rules.specs.Laws.Kept.{node-word, marks-at}
+use Rattle.rules.specs.Laws.Kept.{node-word}
+use Rattle.rules.specs.Laws.Constants.{marks-at}
 use Rattle.listing.proofs.Notes.{known, unknown, gains-new, gains-known}
 use borrow.Author.Needs.{needs}
 use Rattle.listing.proofs.given.list.Statement.{statement}

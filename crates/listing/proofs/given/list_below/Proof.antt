@@ -1,13 +1,14 @@
 -- `list_below` meets its contract. The invariant: what the start nodes below p are to bring is there, but for what those from here
 -- on bring.
-use mathlib.Core.Path.{ap, _∙_}
 use mathlib.Core.List.{[]}
+use mathlib.Core.Path.{ap, _∙_}
 use Prim.Native.Nat.{ℕ, _+_, _-_}
 use native.Mathlib.Omega.{arith}
 use lib.ListN.{getD}
 use denote.Ref.{now}
 use Rattle.rules.specs.Blob.{Block}
-use Rattle.rules.specs.Laws.Kept.{node-word, stack-at}
+use Rattle.rules.specs.Laws.Kept.{node-word}
+use Rattle.rules.specs.Laws.Constants.{stack-at}
 use Rattle.listing.specs.State.{Gains}
 use Rattle.listing.specs.Given.{belowIn}
 use Rattle.listing.proofs.Gained.{belowFrom, gains-refl, start-below, below-turn, below-all}

@@ -5,7 +5,8 @@ use Prim.Native.Nat.{ℕ, _+_}
 use native.Mathlib.Omega.{arith}
 use denote.Ref.{now}
 use Rattle.rules.specs.Octets.{lay}
-use Rattle.rules.specs.Laws.Kept.{node-word, marks-at, list-at}
+use Rattle.rules.specs.Laws.Kept.{node-word}
+use Rattle.rules.specs.Laws.Constants.{marks-at, list-at}
 use Rattle.listing.specs.State.{entered}
 use borrow.Author.Needs.{needs}
 use Rattle.listing.proofs.note.enter.Statement.{statement}

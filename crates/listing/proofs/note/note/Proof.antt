@@ -7,7 +7,8 @@ use lib.ListN.{getD}
 use denote.Ref.{now}
 use Rattle.rules.specs.Space.{stackAt}
 use Rattle.rules.specs.Octets.{lay}
-use Rattle.rules.specs.Laws.Kept.{node-word, marks-at, stack-at}
+use Rattle.rules.specs.Laws.Kept.{node-word}
+use Rattle.rules.specs.Laws.Constants.{marks-at, stack-at}
 use Rattle.listing.specs.State.{entered}
 use Rattle.listing.proofs.Notes.{known, unknown, stacks-known, stacks-new}
 use borrow.Author.Needs.{needs}

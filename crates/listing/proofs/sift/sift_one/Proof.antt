@@ -8,7 +8,8 @@ use denote.Ref.{now}
 use borrow.Author.Tests.{not-true, not-false}
 use Rattle.rules.specs.Octets.{lay}
 use Rattle.rules.specs.Space.{listAt}
-use Rattle.rules.specs.Laws.Kept.{node-word, list-at}
+use Rattle.rules.specs.Laws.Kept.{node-word}
+use Rattle.rules.specs.Laws.Constants.{list-at}
 use Rattle.listing.proofs.Sieved.{sifts-out, sifts-in}
 use borrow.Author.Needs.{needs}
 use Rattle.listing.proofs.sift.sift_one.Statement.{statement}

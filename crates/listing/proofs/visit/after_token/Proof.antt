@@ -1,8 +1,8 @@
 -- `after_token` meets its contract: a case for each kind.
 use denote.Ref.{now}
-use Rattle.references.specs.Cells.{blockOf}
 use Rattle.listing.proofs.Visits.{told-prop, told-nop, told-begin, told-end}
 use borrow.Author.Needs.{needs}
+use Rattle.rules.specs.Blob.{blockOf}
 use Rattle.listing.proofs.visit.after_token.Statement.{statement}
 use Rattle.listing.proofs.visit.after_token.Tie as tie
 

@@ -5,11 +5,11 @@ use native.Mathlib.Omega.{arith}
 use lib.ListN.{length}
 use denote.Ref.{now}
 use Rattle.references.specs.Rows.{meaning}
-use Rattle.references.specs.Cells.{blockOf}
 use Rattle.listing.specs.State.{Stacks}
 use Rattle.listing.proofs.Notes.{stacks-refl}
 use Rattle.listing.proofs.Visits.{targetsFrom, scan-stop, scan-ahead, scan-target, scan-next}
 use borrow.Author.Needs.{needs}
+use Rattle.rules.specs.Blob.{blockOf}
 use Rattle.listing.proofs.visit.note_targets.Statement.{statement}
 use Rattle.listing.proofs.visit.note_targets.Tie as tie
 

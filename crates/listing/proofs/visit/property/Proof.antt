@@ -5,10 +5,10 @@ use borrow.Author.Tests.{not-true, not-false}
 use Rattle.rules.specs.Events.{stringAt}
 use Rattle.rules.specs.References.{isReference, cellRows, cellsIn}
 use Rattle.references.specs.Rows.{meaning}
-use Rattle.references.specs.Cells.{blockOf}
 use Rattle.listing.specs.Visit.{propertyOf}
 use Rattle.listing.proofs.Visits.{property-none, property-some}
 use borrow.Author.Needs.{needs}
+use Rattle.rules.specs.Blob.{blockOf}
 use Rattle.listing.proofs.visit.property.Statement.{statement}
 use Rattle.listing.proofs.visit.property.Tie as tie
 

@@ -5,11 +5,11 @@ use native.Mathlib.Omega.{arith}
 use lib.ListN.{length}
 use denote.Ref.{now}
 use Rattle.rules.specs.Laws.Tokens.{item-ahead}
-use Rattle.references.specs.Cells.{blockOf}
 use Rattle.listing.specs.State.{Stacks}
 use Rattle.listing.proofs.Parts.{apart-kept}
 use Rattle.listing.proofs.Visits.{targetsOf, targetsBehind, visit-nowhere, visit-first, visit-stop, visit-done, visit-on}
 use borrow.Author.Needs.{needs}
+use Rattle.rules.specs.Blob.{blockOf}
 use Rattle.listing.proofs.visit.visit.Statement.{statement}
 use Rattle.listing.proofs.visit.visit.Tie as tie
 

@@ -4,13 +4,14 @@ use Prim.Native.Nat.{ℕ, _+_, _-_}
 use native.Mathlib.Omega.{arith}
 use lib.ListN.{getD}
 use denote.Ref.{now}
-use Rattle.rules.specs.Laws.Kept.{node-word, stack-at}
-use Rattle.references.specs.Cells.{blockOf}
+use Rattle.rules.specs.Laws.Kept.{node-word}
 use Rattle.listing.specs.State.{Apart, Piled}
 use Rattle.listing.specs.Walk.{workFrom}
 use Rattle.listing.proofs.Parts.{apart-refl, apart-kept}
 use Rattle.listing.proofs.Walks.{top-small, popped, walk-turn, walk-apart, walk-less, walked}
 use borrow.Author.Needs.{needs}
+use Rattle.rules.specs.Blob.{blockOf}
+use Rattle.rules.specs.Laws.Constants.{stack-at}
 use Rattle.listing.proofs.walk.walk.Statement.{statement}
 use Rattle.listing.proofs.walk.walk.Tie as tie
 

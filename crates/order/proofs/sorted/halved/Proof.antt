@@ -4,7 +4,7 @@ use Prim.Native.Nat.{_+_, _-_, _/_, _≤_}
 use native.Mathlib.Omega.{arith}
 use denote.Ref.{now}
 use Rattle.rules.specs.Octets.{Bytes}
-use Rattle.paths.specs.Trees.{treeOf}
+use Rattle.rules.specs.Laws.Tabled.{treeOf}
 use Rattle.order.specs.Region.{Halves}
 use Rattle.order.proofs.Regions.{between-start, step-up, step-down}
 use borrow.Author.Needs.{needs}

@@ -1,7 +1,8 @@
 -- `node_of` meets its contract.
 use native.Mathlib.Omega.{arith}
 use denote.Ref.{now}
-use Rattle.rules.specs.Laws.Kept.{node-word, stack-at, word-in-part}
+use Rattle.rules.specs.Laws.Kept.{node-word, word-in-part}
+use Rattle.rules.specs.Laws.Constants.{stack-at}
 use borrow.Author.Needs.{needs}
 use Rattle.order.proofs.sorted.node_of.Statement.{statement}
 use Rattle.order.proofs.sorted.node_of.Tie as tie

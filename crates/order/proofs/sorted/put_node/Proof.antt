@@ -1,7 +1,8 @@
 -- `put_node` meets its contract.
 use native.Mathlib.Omega.{arith}
 use denote.Ref.{now}
-use Rattle.rules.specs.Laws.Kept.{node-word, stack-at, put-in-part}
+use Rattle.rules.specs.Laws.Kept.{node-word, put-in-part}
+use Rattle.rules.specs.Laws.Constants.{stack-at}
 use borrow.Author.Needs.{needs}
 use Rattle.order.proofs.sorted.put_node.Statement.{statement}
 use Rattle.order.proofs.sorted.put_node.Tie as tie

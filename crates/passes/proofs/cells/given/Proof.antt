@@ -1,5 +1,4 @@
 -- `given` meets its contract: the length, then the phandle that is known.
-use mathlib.Core.Path.{sym}
 use borrow.Author.Tests.{eq-eqb, ne-eqb}
 use Rattle.passes.specs.Cells.{onGiven}
 use Rattle.passes.proofs.Watched.{unknown, other, again}

@@ -1,5 +1,4 @@
 -- `property` meets its contract.
-use mathlib.Core.Path.{sym, _∙_}
 use borrow.Author.Tests.{eq-eqb, ne-eqb}
 use Rattle.passes.specs.Cells.{onProperty}
 use Rattle.rules.specs.Laws.Tests.{and-none}

@@ -1,10 +1,9 @@
 -- `give` meets its contract.
-use mathlib.Core.Path.{_≡_, sym, ap₂, _∙_}
+use mathlib.Core.Path.{sym, ap₂, _∙_}
 use mathlib.Core.Bool.{false}
 use mathlib.Core.List.{List}
 use Prim.Native.Nat.{ℕ}
 use native.Mathlib.Numerals.{add-one}
-use native.Mathlib.Omega.{arith}
 use Rattle.passes.specs.declared.shared.Row.the-variants.{Go}
 use Rattle.passes.specs.Rows.{rowGive}
 use borrow.Author.Needs.{needs}

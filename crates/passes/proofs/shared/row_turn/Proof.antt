@@ -1,12 +1,11 @@
 -- `row_turn` meets its contract: a case for each kind.
-use mathlib.Core.Path.{_≡_, sym, ap, _∙_}
+use mathlib.Core.Path.{sym, ap, _∙_}
 use mathlib.Core.List.{List}
 use Prim.Native.Nat.{ℕ}
 use denote.Ref.{now}
 use borrow.Author.Tests.{not-true, not-false}
 use Rattle.rules.specs.Octets.{part, wordAt}
 use Rattle.rules.specs.Events.{stringAt}
-use Rattle.rules.specs.Laws.Tests.{not-passed}
 use Rattle.passes.proofs.Phandles.{turn-begin, turn-end, turn-nop, turn-shut, turn-other, turn-give}
 use borrow.Author.Needs.{needs}
 use Rattle.passes.proofs.shared.row_turn.Statement.{statement}

@@ -1,17 +1,16 @@
 -- `has_path` meets its contract. The invariant: what is left of the node's path is the first e bytes of p exactly if the whole is p.
 use mathlib.Core.Path.{refl, _≡_, sym, ap, _∙_}
 use mathlib.Core.Bool.{true, false}
-use mathlib.Core.List.{_∷_, _++_}
-use Prim.Native.Nat.{ℕ, _+_, _-_, _≤_}
+use mathlib.Core.List.{_∷_}
+use Prim.Native.Nat.{ℕ, _-_, _≤_}
 use native.Mathlib.Omega.{arith}
-use lib.Dec.{eqb}
 use lib.ListN.{length, take}
 use lib.Seq.{take-length}
 use denote.Ref.{now}
 use borrow.Author.Tests.{not-true, not-false}
 use Rattle.rules.specs.Octets.{Bytes, same, ends}
 use Rattle.rules.specs.Tree.{path, spell, node}
-use Rattle.paths.specs.Trees.{treeOf}
+use Rattle.rules.specs.Laws.Tabled.{treeOf}
 use Rattle.paths.proofs.Climbs.{spell-none, spell-root, spell-step, path-root, path-other}
 use Rattle.paths.proofs.Endings.{closes-room, same-not, same-on, same-none}
 use borrow.Author.Needs.{needs}

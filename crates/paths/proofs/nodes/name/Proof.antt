@@ -4,7 +4,7 @@ use Prim.Native.Nat.{ℕ, _+_, _-_}
 use native.Mathlib.Omega.{arith}
 use denote.Ref.{now}
 use Rattle.rules.specs.Octets.{Bytes}
-use Rattle.rules.specs.Blob.{Block}
+use Rattle.rules.specs.Blob.{Block, blockOf}
 use Rattle.rules.specs.Events.{stringAt}
 use Rattle.rules.specs.Tree.{Node}
 use Rattle.rules.specs.Laws.Tabled.{beginOf, node-in, node-out}
@@ -12,14 +12,11 @@ use borrow.Author.Needs.{needs}
 use Rattle.paths.proofs.nodes.name.Statement.{statement}
 use Rattle.paths.proofs.nodes.name.Tie as tie
 
-abbrev block : ℕ → Bytes → Bytes → Block
-block place structure strings = record { place = place; structure = structure; strings = strings }
-
 slice-aggregate-result : tie.Need-slice-aggregate-result
 slice-aggregate-result c = search needs
 
 returns : tie.Need-returns
-returns c = λ strings. sym (ap (λ (n : Node). n .name) (node-out (block (c .before .before .before .before .args .place) (now (c .before .before .before .before .args .structure)) strings) (now (c .before .before .before .before .args .work)) (c .before .before .before .before .args .count) (c .before .before .before .before .args .i) (c .before .if1 .taken)))
+returns c = λ strings. sym (ap (λ (n : Node). n .name) (node-out (blockOf (c .before .before .before .before .args .place) (now (c .before .before .before .before .args .structure)) strings) (now (c .before .before .before .before .args .work)) (c .before .before .before .before .args .count) (c .before .before .before .before .args .i) (c .before .if1 .taken)))
 
 cell-requires : tie.Need-cell-requires
 cell-requires c κs = tt
@@ -36,7 +33,7 @@ returns-2 c =
     let e : 4 ≡ beginOf (c .before .before .before .before .before .before .args .place) (now (c .before .before .before .before .before .before .args .work)) (c .before .before .before .before .before .before .args .i) + 4 = omega (arith, c .before .before .cell .ensures) in
     c .string-at .ensures
     ∙ ap (stringAt (now (c .before .before .before .before .before .before .args .structure))) e
-    ∙ sym (ap (λ (n : Node). n .name) (node-in (block (c .before .before .before .before .before .before .args .place) (now (c .before .before .before .before .before .before .args .structure)) strings) (now (c .before .before .before .before .before .before .args .work)) (c .before .before .before .before .before .before .args .count) (c .before .before .before .before .before .before .args .i) (c .before .before .before .if1 .left)))
+    ∙ sym (ap (λ (n : Node). n .name) (node-in (blockOf (c .before .before .before .before .before .before .args .place) (now (c .before .before .before .before .before .before .args .structure)) strings) (now (c .before .before .before .before .before .before .args .work)) (c .before .before .before .before .before .before .args .count) (c .before .before .before .before .before .before .args .i) (c .before .before .before .if1 .left)))
 
 add-string-at : tie.Need-add-string-at
 add-string-at c = search needs
@@ -50,7 +47,7 @@ returns-3 c =
     let e : c .before .before .cell .result - c .before .before .before .before .before .before .args .place + 4 ≡ beginOf (c .before .before .before .before .before .before .args .place) (now (c .before .before .before .before .before .before .args .work)) (c .before .before .before .before .before .before .args .i) + 4 = ap (λ (n : ℕ). n - c .before .before .before .before .before .before .args .place + 4) (c .before .before .cell .ensures) in
     c .string-at2 .ensures
     ∙ ap (stringAt (now (c .before .before .before .before .before .before .args .structure))) e
-    ∙ sym (ap (λ (n : Node). n .name) (node-in (block (c .before .before .before .before .before .before .args .place) (now (c .before .before .before .before .before .before .args .structure)) strings) (now (c .before .before .before .before .before .before .args .work)) (c .before .before .before .before .before .before .args .count) (c .before .before .before .before .before .before .args .i) (c .before .before .before .if1 .left)))
+    ∙ sym (ap (λ (n : Node). n .name) (node-in (blockOf (c .before .before .before .before .before .before .args .place) (now (c .before .before .before .before .before .before .args .structure)) strings) (now (c .before .before .before .before .before .before .args .work)) (c .before .before .before .before .before .before .args .count) (c .before .before .before .before .before .before .args .i) (c .before .before .before .if1 .left)))
 
 pub name-spec : {M : Type 1} → statement M
 name-spec = tie.close (tie.spec slice-aggregate-result returns cell-requires cast-begin string-at-requires returns-2 add-string-at string-at-requires-2 returns-3)

@@ -1,10 +1,5 @@
 -- `above` meets its contract.
-use mathlib.Core.Path.{_≡_, ap, _∙_}
-use Prim.Native.Nat.{ℕ}
-use native.Mathlib.Omega.{arith}
-use lib.Dec.{ltb}
 use borrow.Author.Tests.{lt-ltb, le-ltb}
-use Rattle.rules.specs.Octets.{if_then_else_}
 use Rattle.paths.proofs.order.above.Statement.{statement}
 use Rattle.paths.proofs.order.above.Tie as tie
 

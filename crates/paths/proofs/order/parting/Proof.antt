@@ -1,7 +1,6 @@
 -- `parting` meets its contract. The invariant: the ways from both nodes up to here have not met.
 use Prim.Native.Nat.{_+_, _<_}
 use native.Mathlib.Omega.{arith}
-use lib.ListN.{length}
 use denote.Ref.{now}
 use Rattle.rules.specs.Blob.{Block}
 use Rattle.rules.specs.Laws.Paths.{Formed}

@@ -1,21 +1,18 @@
 -- `spell` meets its contract. The invariant: from `end` on the rest of the path stands in the buffer.
+use mathlib.Core.List.{[]}
 use mathlib.Core.Path.{_≡_, refl, sym, ap, _∙_}
-use mathlib.Core.List.{List, []}
-use Prim.Native.Nat.{ℕ, _+_, _-_, _≤_}
+use Prim.Native.Nat.{ℕ, _-_}
 use native.Mathlib.Omega.{arith}
 use lib.ListN.{length}
 use denote.Ref.{now}
 use Rattle.rules.specs.Octets.{Bytes, lay, closed}
-use Rattle.rules.specs.Blob.{Block}
-use Rattle.paths.specs.Trees.{treeOf}
+use Rattle.rules.specs.Blob.{Block, blockOf}
+use Rattle.rules.specs.Laws.Tabled.{treeOf}
 use Rattle.paths.proofs.Climbs.{spell-none, spell-root, path-root}
 use Rattle.paths.proofs.Spellings.{Laid, laid-start, laid-room, laid-on, laid-end}
 use borrow.Author.Needs.{needs}
 use Rattle.paths.proofs.spelling.spell.Statement.{statement}
 use Rattle.paths.proofs.spelling.spell.Tie as tie
-
-abbrev block : ℕ → Bytes → Bytes → Block
-block place structure strings = record { place = place; structure = structure; strings = strings }
 
 abbrev Inv-loop : tie.InvT-loop
 Inv-loop structure place work count i out₀ at end₀ left₀ node₀ t14 out end left node =
@@ -103,7 +100,7 @@ loop-again c = (
   c .before .before .before .put-behind3 .kept .0 ∙ c .before .before .before .before .before .before .before .before .put-behind2 .kept .0 ∙ c .before .before .before .before .before .before .before .before .before .before .before .before .before .loop .inv .0,
   λ strings.
       laid-on (treeOf (c .before .before .before .before .before .before .before .before .before .before .before .before .before .before .before .before .before .before .before .before .before .before .before .before .args .place) (now (c .before .before .before .before .before .before .before .before .before .before .before .before .before .before .before .before .before .before .before .before .before .before .before .before .args .structure)) strings (now (c .before .before .before .before .before .before .before .before .before .before .before .before .before .before .before .before .before .before .before .before .before .before .before .before .args .work)) (c .before .before .before .before .before .before .before .before .before .before .before .before .before .before .before .before .before .before .before .before .before .before .before .before .args .count)) (c .before .before .before .before .before .before .before .before .before .before .before .before .before .before .before .before .before .before .before .before .before .before .before .before .args .i) (c .before .before .before .before .before .before .before .before .before .before .before .before .before .loop .left) (c .before .before .before .before .before .before .before .before .before .before .before .before .before .loop .node) (c .before .before .before .before .before .before .before .before .before .before .before .before .before .loop .end) (c .before .before .before .before .before .before .before .before .before .before .before .before .before .before .before .before .before .before .before .before .before .before .before .before .args .at) (c .before .before .before .before .before .before .before .before .before .before .before .before .before .before .before .before .put-behind .last .0) (c .before .before .before .before .before .before .before .before .before .before .before .before .before .loop .out) (c .before .before .before .before .before .before .before .before .before .before .before .before .before .loop .inv .1 strings)
-      (c .before .before .before .before .before .before .before .before .before .before .before .before .loop-test .taken) (c .before .before .before .before .before .before .before .before .before .before .before .if2 .left) (now (c .before .before .before .before .before .before .before .before .before .before .name .result)) (c .before .before .before .before .before .before .before .before .before .before .name .ensures strings) (c .up .result) (c .up .ensures (block (c .before .before .before .before .before .before .before .before .before .before .before .before .before .before .before .before .before .before .before .before .before .before .before .before .args .place) (now (c .before .before .before .before .before .before .before .before .before .before .before .before .before .before .before .before .before .before .before .before .before .before .before .before .args .structure)) strings))
+      (c .before .before .before .before .before .before .before .before .before .before .before .before .loop-test .taken) (c .before .before .before .before .before .before .before .before .before .before .before .if2 .left) (now (c .before .before .before .before .before .before .before .before .before .before .name .result)) (c .before .before .before .before .before .before .before .before .before .before .name .ensures strings) (c .up .result) (c .up .ensures (blockOf (c .before .before .before .before .before .before .before .before .before .before .before .before .before .before .before .before .before .before .before .before .before .before .before .before .args .place) (now (c .before .before .before .before .before .before .before .before .before .before .before .before .before .before .before .before .before .before .before .before .before .before .before .before .args .structure)) strings))
       (c .before .before .before .before .before .before .before .before .put-behind2 .last .0) (c .before .before .before .put-behind3 .last .0) (c .before .before .before .before .before .before .before .before .put-behind2 .ensures) (c .before .before .before .put-behind3 .ensures),
 )
 

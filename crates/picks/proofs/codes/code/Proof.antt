@@ -8,9 +8,10 @@ use Rattle.rules.specs.Lists.{oneOf}
 use Rattle.rules.specs.Tree.{frame}
 use Rattle.rules.specs.Copy.{null, isCpus, stranger}
 use Rattle.rules.specs.Space.{marksAt}
+use Rattle.rules.specs.Blob.{blockOf}
 use Rattle.rules.specs.Laws.Tabled.{treeIn}
-use Rattle.rules.specs.Laws.Kept.{node-word, marks-at, word-in-part}
-use Rattle.references.specs.Cells.{blockOf}
+use Rattle.rules.specs.Laws.Kept.{node-word, word-in-part}
+use Rattle.rules.specs.Laws.Constants.{marks-at}
 use Rattle.picks.specs.Marks.{marked}
 use Rattle.picks.specs.Turns.{parentCode}
 use Rattle.picks.proofs.Coding.{null-yes, null-no, of-cpus-none, of-cpus, of-stranger, of-friend, of-dropped, of-outside}

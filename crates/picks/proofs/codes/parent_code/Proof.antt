@@ -2,7 +2,8 @@
 use mathlib.Core.Path.{_∙_}
 use native.Mathlib.Omega.{arith}
 use denote.Ref.{now}
-use Rattle.rules.specs.Laws.Kept.{node-word, stack-at, word-in-part}
+use Rattle.rules.specs.Laws.Kept.{node-word, word-in-part}
+use Rattle.rules.specs.Laws.Constants.{stack-at}
 use Rattle.picks.proofs.Coding.{parent-none, parent-some}
 use borrow.Author.Needs.{needs}
 use Rattle.picks.proofs.codes.parent_code.Statement.{statement}

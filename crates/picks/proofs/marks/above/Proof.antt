@@ -2,7 +2,8 @@
 use mathlib.Core.Logic.{inl, inr}
 use native.Mathlib.Omega.{arith}
 use denote.Ref.{now}
-use Rattle.rules.specs.Laws.Kept.{node-word, names-at, put-in-part}
+use Rattle.rules.specs.Laws.Kept.{node-word, put-in-part}
+use Rattle.rules.specs.Laws.Constants.{names-at}
 use Rattle.picks.proofs.Marking.{Climbing, climbing-first, climbing-done, climbing-more, up-small}
 use borrow.Author.Needs.{needs}
 use Rattle.picks.proofs.marks.above.Statement.{statement}

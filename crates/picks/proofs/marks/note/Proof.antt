@@ -4,7 +4,8 @@ use mathlib.Core.List.{List}
 use Prim.Native.Nat.{ℕ, _-_, _≤_}
 use native.Mathlib.Omega.{arith}
 use denote.Ref.{now}
-use Rattle.rules.specs.Laws.Kept.{node-word, marks-at, list-at, word-in-part, put-in-part}
+use Rattle.rules.specs.Laws.Kept.{node-word, word-in-part, put-in-part}
+use Rattle.rules.specs.Laws.Constants.{marks-at, list-at}
 use Rattle.picks.specs.Marks.{Noted, listIn, Keeps}
 use Rattle.picks.proofs.Marking.{noted-first, node-inside, noted-keeps, noted-more, noted-done}
 use borrow.Author.Needs.{needs}

@@ -1,7 +1,8 @@
 -- `ways` meets its contract.
 use native.Mathlib.Omega.{arith}
 use denote.Ref.{now}
-use Rattle.rules.specs.Laws.Kept.{node-ceiling, marks-at, names-at, list-behind, stack-behind, names-behind, names-room}
+use Rattle.rules.specs.Laws.Kept.{list-behind, stack-behind, names-behind, names-room}
+use Rattle.rules.specs.Laws.Constants.{node-ceiling, marks-at, names-at}
 use Rattle.picks.proofs.Places.{cleared-as}
 use Rattle.picks.proofs.Marking.{cleared-keeps, cleared-small, cleared-none-marked, cleared-noted}
 use Rattle.picks.proofs.marks.ways.Statement.{statement}

@@ -7,9 +7,9 @@ use denote.Ref.{now}
 use Rattle.rules.specs.Laws.Tokens.{item-ahead}
 use Rattle.rules.specs.Laws.Tabled.{propsAt, countNamed}
 use Rattle.references.specs.Rows.{meaning}
-use Rattle.references.specs.Cells.{blockOf}
 use Rattle.references.proofs.Counts.{countAt, count-first, count-nowhere, count-stop, count-value, count-done, count-on}
 use borrow.Author.Needs.{needs}
+use Rattle.rules.specs.Blob.{blockOf}
 use Rattle.references.proofs.cells.cells_of.Statement.{statement}
 use Rattle.references.proofs.cells.cells_of.Tie as tie
 

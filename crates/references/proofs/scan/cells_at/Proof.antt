@@ -5,8 +5,8 @@ use native.Mathlib.Omega.{arith}
 use denote.Ref.{now}
 use Rattle.rules.specs.Laws.Tabled.{beginOf, propsAt, countNamed}
 use Rattle.references.specs.Rows.{meaning}
-use Rattle.references.specs.Cells.{blockOf}
 use borrow.Author.Needs.{needs}
+use Rattle.rules.specs.Blob.{blockOf}
 use Rattle.references.proofs.scan.cells_at.Statement.{statement}
 use Rattle.references.proofs.scan.cells_at.Tie as tie
 

@@ -7,10 +7,10 @@ use denote.Ref.{now}
 use Rattle.rules.specs.Laws.Tabled.{lookIn}
 use Rattle.references.specs.Rows.{meaning}
 use Rattle.references.specs.Table.{found}
-use Rattle.references.specs.Cells.{blockOf}
 use Rattle.references.specs.Scan.{scanIn}
 use Rattle.references.proofs.Scans.{scanned-odd, scanned-past, scanned-skip, scanned-here}
 use borrow.Author.Needs.{needs}
+use Rattle.rules.specs.Blob.{blockOf}
 use Rattle.references.proofs.scan.next_reference.Statement.{statement}
 use Rattle.references.proofs.scan.next_reference.Tie as tie
 

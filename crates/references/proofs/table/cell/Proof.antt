@@ -5,12 +5,13 @@ use native.Mathlib.Omega.{arith}
 use lib.ListN.{length, List·getD-eq-default}
 use denote.Ref.{now}
 use borrow.Author.Needs.{needs}
+use Rattle.rules.specs.Laws.Constants.{NODE-WORDS}
 use Rattle.references.proofs.table.cell.Statement.{statement}
 use Rattle.references.proofs.table.cell.Tie as tie
 
 returns : tie.Need-returns
 returns c =
-    let h : length (now (c .before .args .work)) ≤ 4 * c .before .args .i + c .before .args .k = omega arith in
+    let h : length (now (c .before .args .work)) ≤ NODE-WORDS * c .before .args .i + c .before .args .k = omega arith in
     sym (List·getD-eq-default (now (c .before .args .work)) 0 h)
 
 mul-at : tie.Need-mul-at
@@ -21,7 +22,7 @@ sub-if2 c = search needs
 
 returns-2 : tie.Need-returns-2
 returns-2 c =
-    let h : length (now (c .before .before .args .work)) ≤ 4 * c .before .before .args .i + c .before .before .args .k = omega arith in
+    let h : length (now (c .before .before .args .work)) ≤ NODE-WORDS * c .before .before .args .i + c .before .before .args .k = omega arith in
     sym (List·getD-eq-default (now (c .before .before .args .work)) 0 h)
 
 add-result : tie.Need-add-result

@@ -1,10 +1,8 @@
 -- `FdtWriter::begin_node` meets its contract: refused, all stays; passed, there is room for what is laid in.
-use mathlib.Core.Path.{_≡_, refl, sym, ap, _∙_}
-use Prim.Native.Nat.{_+_, _≤_}
+use mathlib.Core.Path.{_≡_, sym, ap, _∙_}
 use native.Mathlib.Omega.{arith}
 use lib.ListN.{length}
 use denote.Ref.{now}
-use Rattle.rules.specs.Octets.{lay}
 use Rattle.rules.specs.Outcome.{refuses, passes}
 use Rattle.rules.specs.Writer.{State, beginBytes, beginJudged, beginNode, beginNodeData, begun}
 use Rattle.rules.specs.Laws.Writer.{length-begin}

@@ -1,8 +1,8 @@
 -- `FdtWriter::new_with_mem_reserv` meets its contract.
-use mathlib.Core.Path.{_≡_, refl, sym, ap, _∙_}
+use mathlib.Core.Path.{_≡_, sym, ap, _∙_}
 use mathlib.Core.Bool.{false}
 use Prim.Native.Nat.{ℕ}
-use lib.ListN.{length, take}
+use lib.ListN.{length}
 use denote.Ref.{now}
 use Rattle.rules.specs.Outcome.{passes}
 use Rattle.rules.specs.Writer.{fresh, startJudged}

@@ -1,5 +1,4 @@
 -- `FdtWriter::property_array_u32` meets its contract.
-use mathlib.Core.Path.{_≡_}
 use mathlib.Core.Bool.{false}
 use lib.ListN.{length}
 use denote.Ref.{now}

@@ -1,5 +1,4 @@
 -- `FdtWriter::property_phandle` meets its contract.
-use mathlib.Core.Path.{_≡_}
 use native.Mathlib.Omega.{arith}
 use lib.ListN.{length}
 use denote.Ref.{now}

@@ -1,5 +1,4 @@
 -- `FdtWriter::property_string` meets its contract.
-use mathlib.Core.Path.{_≡_}
 use lib.ListN.{length}
 use denote.Ref.{now}
 use Rattle.rules.specs.Octets.{hasNul, closed}

@@ -1,7 +1,6 @@
 -- `FdtWriter::set_boot_cpuid_phys` meets its contract.
 use mathlib.Core.Path.{refl}
 use Rattle.rules.specs.Writer.{setBootCpu}
-use borrow.Author.Needs.{needs}
 use Rattle.writer.proofs.FdtWriter.set_boot_cpuid_phys.Statement.{statement}
 use Rattle.writer.proofs.FdtWriter.set_boot_cpuid_phys.Tie as tie
 
