@@ -27,7 +27,7 @@ use Rattle.rules.specs.Laws.Octets.{lay-put}
 use Rattle.rules.specs.Laws.Copy.{copied-root, copied-parent}
 use Rattle.rules.specs.Laws.Listing.{listed-small}
 use Rattle.rules.specs.Laws.Sieve.{Upward}
-use Rattle.rules.specs.Laws.Kept.{Only, tree-alike, only-drop, marks-behind, list-behind, stack-behind}
+use Rattle.rules.specs.Laws.Kept.{tree-alike, only-drop, marks-behind, list-behind, stack-behind}
 use Rattle.rules.specs.Laws.Tabled.{treeIn, tree-length}
 use Rattle.order.specs.Starts.{Asked}
 use Rattle.guest.specs.declared.Size.{Size}

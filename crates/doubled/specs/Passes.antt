@@ -7,7 +7,7 @@ use lib.ListN.{length}
 use Rattle.rules.specs.Ceilings.{nodeWords}
 use Rattle.rules.specs.Octets.{Bytes}
 use Rattle.rules.specs.Outcome.{Verdict, refuses, passes}
-use Rattle.rules.specs.Blob.{Block, blockOf}
+use Rattle.rules.specs.Blob.{blockOf}
 use Rattle.rules.specs.Events.{Property, eventsIn}
 use Rattle.rules.specs.Laws.Events.{eventsAt}
 use Rattle.rules.specs.Tree.{Tree, propsOf, nodesOf}

@@ -17,7 +17,7 @@ use Rattle.rules.specs.Events.{stringAt}
 use Rattle.rules.specs.declared.Kind.{Kind}
 use Rattle.rules.specs.declared.Kind.the-variants.{Begin, EndNode, Prop, Nop}
 use Rattle.rules.specs.Laws.Tests.{by-test, never, or-cases, or-left, or-right, not-passed, or-nothing}
-use Rattle.rules.specs.Laws.Octets.{same-eq, same-refl, nul-le, length-lay, lay-one-same, lay-one-other}
+use Rattle.rules.specs.Laws.Octets.{same-eq, nul-le, length-lay, lay-one-same, lay-one-other}
 use Rattle.rules.specs.Laws.Kept.{list-behind, stack-behind, only-none, only-one}
 use Rattle.guest.specs.declared.walk.Named.{Named}
 use Rattle.guest.specs.declared.walk.Named.the-variants.{At, Nothing}

@@ -1,6 +1,5 @@
 -- Any two answers that the promise of `judge` allows are equal.
 use mathlib.Core.Path.{_≡_, refl, sym, ap, _∙_}
-use Prim.Native.Nat.{ℕ}
 use lib.Dec.{eqb}
 use Rattle.rules.specs.Octets.{Bytes, if_then_else_}
 use Rattle.rules.specs.Outcome.{Verdict, gives, refuses}

@@ -3,7 +3,7 @@ use mathlib.Core.Path.{_≡_}
 use mathlib.Core.List.{List}
 use Prim.Native.Nat.{ℕ, _-_, _<_}
 use lib.ListN.{length}
-use Rattle.rules.specs.Octets.{Bytes, lay}
+use Rattle.rules.specs.Octets.{lay}
 use Rattle.rules.specs.Lists.{keep, sort}
 use Rattle.rules.specs.Blob.{Block}
 use Rattle.rules.specs.Tree.{Tree, frame, path, numbersFrom}

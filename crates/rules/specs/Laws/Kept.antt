@@ -8,7 +8,7 @@ use native.Mathlib.Omega.{arith}
 use lib.ListN.{length, getD, drop, length-take, length-drop}
 use lib.Seq.{ext-getD, getD-take, getD-drop}
 use borrow.Author.Tests.{le-ltb}
-use Rattle.rules.specs.Ceilings.{blobCeiling, nodeCeiling, entryCeiling, nodeWords, workWords}
+use Rattle.rules.specs.Ceilings.{blobCeiling, nodeCeiling, nodeWords, workWords}
 use Rattle.rules.specs.Octets.{Bytes, put, lay}
 use Rattle.rules.specs.Outcome.{passes}
 use Rattle.rules.specs.Blob.{Block, headerJudged, blockIn}

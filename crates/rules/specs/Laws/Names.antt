@@ -10,7 +10,7 @@ use native.Mathlib.Numerals.{add-one}
 use lib.Dec.{eqb, leb, ltb}
 use lib.ListN.{length, take, drop, drop-of-length-le, length-drop}
 use lib.Seq.{drop-cons, length-take-le, getD-take, getD-drop}
-use borrow.Author.Tests.{eq-eqb, ne-eqb, eqb-true, eqb-false, leb-true, ltb-true, not-true}
+use borrow.Author.Tests.{eq-eqb, ne-eqb, eqb-true, eqb-false, leb-true, not-true}
 use Rattle.rules.specs.Ceilings.{nodeNameCeiling, propertyNameCeiling}
 use Rattle.rules.specs.Octets.{Bytes, byteAt, hasNul}
 use Rattle.rules.specs.Names.{within, nodeChar, propertyChar, atSign, nodeNameValid, propertyNameValid, nodeNameReads}

@@ -1,6 +1,5 @@
 -- The laws of the shape: what it says of a token, and of the walk behind it, that the walk passes; and what names that pass hold.
 use mathlib.Core.Path.{_≡_, refl, ap}
-use mathlib.Core.Logic.{_⊎_, inl, inr}
 use mathlib.Core.Bool.{Bool, true, false, not}
 use mathlib.Core.List.{List, [], _∷_}
 use Prim.Native.Nat.{ℕ, suc, _≤_, _<_}
@@ -12,7 +11,7 @@ use Rattle.rules.specs.Ceilings.{nodeCeiling, openCeiling}
 use Rattle.rules.specs.Octets.{Bytes, byteAt}
 use Rattle.rules.specs.Names.{nodeNameValid, nodeNameReads, propertyNameReads}
 use Rattle.rules.specs.Outcome.{Verdict, passes}
-use Rattle.rules.specs.Events.{Walk, Step, stop, done, go, opening, closing, holding, after}
+use Rattle.rules.specs.Events.{Walk, opening, closing, holding, after}
 use Rattle.rules.specs.Listing.{_∈_}
 use Rattle.rules.specs.Laws.Tests.{by-test, never, and-true}
 use Rattle.rules.specs.Laws.Lists.{every-mem}

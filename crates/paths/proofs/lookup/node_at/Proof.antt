@@ -1,10 +1,10 @@
 -- `node_at` meets its contract. The invariant: the answer is that of the search from i on.
 use mathlib.Core.Path.{_≡_, sym, _∙_}
-use Prim.Native.Nat.{ℕ, _-_, _≤_}
+use Prim.Native.Nat.{_-_, _≤_}
 use native.Mathlib.Omega.{arith}
 use denote.Ref.{now}
 use Rattle.rules.specs.Octets.{Bytes}
-use Rattle.rules.specs.Blob.{Block, blockOf}
+use Rattle.rules.specs.Blob.{blockOf}
 use Rattle.rules.specs.Tree.{frame}
 use Rattle.rules.specs.Derivation.{nodeAt}
 use Rattle.rules.specs.Laws.Tabled.{treeOf}

@@ -3,8 +3,7 @@ use mathlib.Core.Path.{_≡_, sym, ap, _∙_}
 use Prim.Native.Nat.{ℕ, _+_, _-_}
 use native.Mathlib.Omega.{arith}
 use denote.Ref.{now}
-use Rattle.rules.specs.Octets.{Bytes}
-use Rattle.rules.specs.Blob.{Block, blockOf}
+use Rattle.rules.specs.Blob.{blockOf}
 use Rattle.rules.specs.Events.{stringAt}
 use Rattle.rules.specs.Tree.{Node}
 use Rattle.rules.specs.Laws.Tabled.{beginOf, node-in, node-out}

@@ -2,12 +2,11 @@
 use mathlib.Core.Path.{sym, ap₂, _∙_}
 use mathlib.Core.Bool.{not}
 use mathlib.Core.List.{_++_}
-use Prim.Native.Nat.{ℕ}
 use native.Mathlib.Omega.{arith}
 use lib.Dec.{eqb}
 use denote.Ref.{now}
 use Rattle.rules.specs.Octets.{Bytes, before}
-use Rattle.rules.specs.Blob.{Block, blockOf}
+use Rattle.rules.specs.Blob.{blockOf}
 use Rattle.rules.specs.Laws.Tabled.{treeIn, tree-length}
 use Rattle.paths.specs.Order.{slash}
 use Rattle.paths.proofs.Ways.{order-above, order-below, order-names}

@@ -7,7 +7,7 @@ use lib.ListN.{length}
 use denote.Ref.{now}
 use Rattle.rules.specs.Ceilings.{blobCeiling, nodeCeiling}
 use Rattle.rules.specs.Octets.{Bytes}
-use Rattle.rules.specs.Blob.{Block, blockOf}
+use Rattle.rules.specs.Blob.{blockOf}
 use Rattle.rules.specs.Tree.{path, spell}
 use Rattle.rules.specs.Laws.Tabled.{treeOf}
 use Rattle.paths.proofs.Climbs.{spell-none, spell-root, path-root, path-other}

@@ -1,12 +1,12 @@
 -- `spell` meets its contract. The invariant: from `end` on the rest of the path stands in the buffer.
 use mathlib.Core.List.{[]}
 use mathlib.Core.Path.{_≡_, refl, sym, ap, _∙_}
-use Prim.Native.Nat.{ℕ, _-_}
+use Prim.Native.Nat.{_-_}
 use native.Mathlib.Omega.{arith}
 use lib.ListN.{length}
 use denote.Ref.{now}
 use Rattle.rules.specs.Octets.{Bytes, lay, closed}
-use Rattle.rules.specs.Blob.{Block, blockOf}
+use Rattle.rules.specs.Blob.{blockOf}
 use Rattle.rules.specs.Laws.Tabled.{treeOf}
 use Rattle.paths.proofs.Climbs.{spell-none, spell-root, path-root}
 use Rattle.paths.proofs.Spellings.{Laid, laid-start, laid-room, laid-on, laid-end}
