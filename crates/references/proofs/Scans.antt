@@ -1,26 +1,20 @@
 -- The scan word by word: its turns, without their fuel.
 use mathlib.Core.Path.{_≡_, refl, sym, ap, _∙_}
-use mathlib.Core.Bool.{true}
 use mathlib.Core.List.{List, [], _∷_}
 use mathlib.Core.Option.{Option, none, some}
 use Prim.Native.Nat.{ℕ, zero, suc, _+_, _*_, _/_, _%_, _≤_, _<_}
 use Prim.Native.String.{String}
 use native.Mathlib.Omega.{arith}
-use lib.Dec.{eqb, ltb}
+use lib.Dec.{ltb}
 use lib.ListN.{length}
 use borrow.Author.Tests.{lt-ltb, le-ltb, ltb-true, eq-eqb, ne-eqb}
-use Rattle.rules.specs.Ceilings.{workWords}
-use Rattle.rules.specs.Octets.{Bytes, if_then_else_, wordAt}
-use Rattle.rules.specs.Outcome.{passes}
-use Rattle.rules.specs.Blob.{Block, blockIn}
-use Rattle.rules.specs.Events.{Property}
-use Rattle.rules.specs.Tree.{Node, Tree, node}
-use Rattle.rules.specs.Reader.{treeRead, blobJudged, readWork}
-use Rattle.rules.specs.References.{Rules, Reference, lookup, cellCount, scanFrom, scan, referencesOf}
+use Rattle.rules.specs.Octets.{Bytes, wordAt}
+use Rattle.rules.specs.Blob.{Block}
+use Rattle.rules.specs.Tree.{Node, node}
+use Rattle.rules.specs.References.{Reference, scanFrom}
 use Rattle.rules.specs.Laws.Tests.{by-test}
-use Rattle.rules.specs.Laws.References.{by-option, references-yes, scan-end, scan-unknown, scan-known, scan-short}
-use Rattle.rules.specs.Laws.Tabled.{treeIn, node-in, lookIn, propsAt, beginOf, countNamed, count-named, look-small}
-use Rattle.rules.specs.Laws.TabledRead.{tree-read, look-read}
+use Rattle.rules.specs.Laws.References.{by-option, scan-end, scan-unknown, scan-known, scan-short}
+use Rattle.rules.specs.Laws.Tabled.{treeIn, node-in, lookIn, propsAt, beginOf, countNamed, look-small}
 use Rattle.references.specs.declared.scan.Next.{Next}
 use Rattle.references.specs.declared.scan.Next.the-variants.{End}
 use Rattle.references.specs.Scan.{scanAt, refersAt, told, Ahead, scanIn, Scanned}

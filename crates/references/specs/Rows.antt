@@ -28,17 +28,18 @@ placeIn n (s ∷ ss) = elim (same n s) [ true ↦ zero | false ↦ suc (placeIn 
 
 -- ---- the rows
 
--- the cells property of each name, row after row
+-- the cells property that each name asks for, the names of all rows one after the other: each is a row of the code's table
 abbrev pub asked : List Row → List String
 asked [] = []
 asked (r ∷ rs) = map (λ (s : String). r .cells) (r .names) ++ asked rs
 
+-- past the last there is none
 abbrev pub nth : List String → ℕ → Option String
 nth [] k = none
 nth (s ∷ ss) zero = some s
 nth (s ∷ ss) (suc k) = nth ss k
 
--- the cells property that name number `row` asks for
+-- the cells property of a row of the code's table
 unfoldable pub meaning : Cells → Option String
 meaning c = nth (asked cellRows) (c .row)
 
