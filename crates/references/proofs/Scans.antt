@@ -1,26 +1,20 @@
 -- The scan word by word: its turns, without their fuel.
 use mathlib.Core.Path.{_≡_, refl, sym, ap, _∙_}
-use mathlib.Core.Bool.{true}
 use mathlib.Core.List.{List, [], _∷_}
 use mathlib.Core.Option.{Option, none, some}
 use Prim.Native.Nat.{ℕ, zero, suc, _+_, _*_, _/_, _%_, _≤_, _<_}
 use Prim.Native.String.{String}
 use native.Mathlib.Omega.{arith}
-use lib.Dec.{eqb, ltb}
+use lib.Dec.{ltb}
 use lib.ListN.{length}
 use borrow.Author.Tests.{lt-ltb, le-ltb, ltb-true, eq-eqb, ne-eqb}
-use Rattle.rules.specs.Ceilings.{workWords}
-use Rattle.rules.specs.Octets.{Bytes, if_then_else_, wordAt}
-use Rattle.rules.specs.Outcome.{passes}
-use Rattle.rules.specs.Blob.{Block, blockIn}
-use Rattle.rules.specs.Events.{Property}
-use Rattle.rules.specs.Tree.{Node, Tree, node}
-use Rattle.rules.specs.Reader.{treeRead, blobJudged, readWork}
-use Rattle.rules.specs.References.{Rules, Reference, lookup, cellCount, scanFrom, scan, referencesOf}
+use Rattle.rules.specs.Octets.{Bytes, wordAt}
+use Rattle.rules.specs.Blob.{Block}
+use Rattle.rules.specs.Tree.{Node, node}
+use Rattle.rules.specs.References.{Reference, scanFrom}
 use Rattle.rules.specs.Laws.Tests.{by-test}
-use Rattle.rules.specs.Laws.References.{by-option, references-yes, scan-end, scan-unknown, scan-known, scan-short}
-use Rattle.rules.specs.Laws.Tabled.{treeIn, node-in, lookIn, propsAt, beginOf, countNamed, count-named, look-small}
-use Rattle.rules.specs.Laws.TabledRead.{tree-read, look-read}
+use Rattle.rules.specs.Laws.References.{by-option, scan-end, scan-unknown, scan-known, scan-short}
+use Rattle.rules.specs.Laws.Tabled.{treeIn, node-in, lookIn, propsAt, beginOf, countNamed, look-small}
 use Rattle.references.specs.declared.scan.Next.{Next}
 use Rattle.references.specs.declared.scan.Next.the-variants.{End}
 use Rattle.references.specs.Scan.{scanAt, refersAt, told, Ahead, scanIn, Scanned}
@@ -46,11 +40,6 @@ module _ (look : ℕ → Option ℕ) (cells : ℕ → ℕ) (v : Bytes) where
   pub scan-odd : (i : ℕ) → (length v % 4 ≡ 0 → ⊥) → scanAt look cells v i ≡ []
   unfolding scanAt
   scan-odd i h = rw (ne-eqb (length v % 4) 0 h)
-
-  -- the scan is the scan from the first word on
-  pub scan-first : scan look cells v ≡ scanAt look cells v 0
-  unfolding scan scanAt
-  scan-first = refl
 
   module _ (h : length v % 4 ≡ 0) (i : ℕ) where
     whole : (f : ℕ) → length v / 4 ≤ f + i → scanAt look cells v i ≡ scanFrom look cells f v (length v / 4) i
@@ -107,38 +96,3 @@ module _ (b : Block) (ws : List ℕ) (count : ℕ) (o : Option String) (v : Byte
           list = e ∙ scan-refers (lookIn ws count) cellsIn v h i l m f;
           ahead = refers-ahead j (length v / 4) i m (cellsIn m) k;
         })
-
--- ---- over the tree read
-
-module _ (look seek : ℕ → Option ℕ) (cells counts : ℕ → ℕ) (p : (w : ℕ) → look w ≡ seek w) (q : (m : ℕ) → cells m ≡ counts m) (v : Bytes) (n : ℕ) where
-  same-scan : (f i : ℕ) → scanFrom look cells f v n i ≡ scanFrom seek counts f v n i
-  unfolding scanFrom
-  same-scan zero i = refl
-  same-scan (suc f) i = by-test (ltb i n)
-      (λ l. by-option (look (wordAt v (4 * i)))
-      (λ e. scan-unknown look cells f v n i l e ∙ same-scan f (i + 1) ∙ sym (scan-unknown seek counts f v n i l (sym (p (wordAt v (4 * i))) ∙ e)))
-      (λ m e. by-test (ltb (i + cells m) n)
-      (λ t. scan-known look cells f v n i m l e t
-      ∙ ap (λ (r : List Reference). record { target = m; index = i; cells = cells m } ∷ r) (same-scan f (i + cells m + 1))
-      ∙ ap (λ (c : ℕ). record { target = m; index = i; cells = c } ∷ scanFrom seek counts f v n (i + c + 1)) (q m)
-      ∙ sym (scan-known seek counts f v n i m l (sym (p (wordAt v (4 * i))) ∙ e) (ap (λ (c : ℕ). ltb (i + c) n) (sym (q m)) ∙ t)))
-      (λ t. scan-short look cells f v n i m l e t
-      ∙ sym (scan-short seek counts f v n i m l (sym (p (wordAt v (4 * i))) ∙ e) (ap (λ (c : ℕ). ltb (i + c) n) (sym (q m)) ∙ t)))))
-      (λ l. scan-end look cells f v n i l ∙ sym (scan-end seek counts f v n i l))
-
-same-scan-at : (look seek : ℕ → Option ℕ) (cells counts : ℕ → ℕ) → ((w : ℕ) → look w ≡ seek w) → ((m : ℕ) → cells m ≡ counts m) → (v : Bytes)
-    → scanAt look cells v 0 ≡ scanAt seek counts v 0
-unfolding scanAt
-same-scan-at look seek cells counts p q v =
-    ap (λ (r : List Reference). if eqb (length v % 4) 0 then r else []) (same-scan look seek cells counts p q v (length v / 4) (length v / 4) 0)
-
--- THE REFERENCES OF A PROPERTY OF A BLOB THAT IS ACCEPTED ARE THOSE THAT THE SCAN OVER ITS TABLE TELLS FROM ITS FIRST WORD ON
-pub references-told : (b : Bytes) (work : List ℕ) → blobJudged b ≡ passes → workWords ≤ length work → (r : Rules) (p : Property) → r .refers (p .name) ≡ true
-    → referencesOf r (treeRead b) p ≡ scanIn (blockIn b) (readWork b work) (length (treeRead b)) (r .cellsName (p .name)) (p .value) 0
-references-told b work h l r p e =
-    references-yes r (treeRead b) p e
-    ∙ scan-first (lookup (treeRead b)) (cellCount r (treeRead b) (p .name)) (p .value)
-    ∙ same-scan-at (lookup (treeRead b)) (lookIn (readWork b work) (length (treeRead b))) (cellCount r (treeRead b) (p .name)) _
-    (λ w. sym (look-read b work h l w))
-    (λ m. count-named r (treeRead b) (p .name) m ∙ ap (λ (t : Tree). countNamed (r .cellsName (p .name)) (node t m .props)) (sym (tree-read b work h l)))
-    (p .value)
