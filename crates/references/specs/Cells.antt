@@ -4,7 +4,6 @@ use mathlib.Core.Option.{Option}
 use Prim.Native.Nat.{ℕ}
 use Prim.Native.String.{String}
 use Rattle.rules.specs.Octets.{Bytes, if_then_else_, wordAt, part}
-use Rattle.rules.specs.Blob.{Block}
 use Rattle.rules.specs.Events.{stringAt}
 use Rattle.rules.specs.declared.Kind.{Kind}
 use Rattle.rules.specs.declared.Kind.the-variants.{Begin, EndNode, Prop, Nop}
