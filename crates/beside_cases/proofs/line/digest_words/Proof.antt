@@ -1,10 +1,10 @@
--- `digest` is safe and ends.
+-- `digest_words` is safe and ends.
 use mathlib.Core.Path.{_≡_}
 use Prim.Native.Nat.{_-_, _≤_}
 use lib.ListN.{length}
 use borrow.Author.Needs.{needs}
-use Rattle.beside_cases.proofs.told.digest.Statement.{statement}
-use Rattle.beside_cases.proofs.told.digest.Tie as tie
+use Rattle.beside_cases.proofs.line.digest_words.Statement.{statement}
+use Rattle.beside_cases.proofs.line.digest_words.Tie as tie
 
 abbrev Inv-loop : tie.InvT-loop
 Inv-loop s h₀ i₀ h i = i ≤ length s
@@ -15,11 +15,11 @@ abbrev μ-loop : tie.MeasureT-loop
 loop-holds : tie.Need-loop-holds Inv-loop μ-loop
 loop-holds c = search needs
 
-shared-slice-read-wide : tie.Need-shared-slice-read-wide Inv-loop μ-loop
-shared-slice-read-wide c = search needs
+mul-mixed : tie.Need-mul-mixed Inv-loop μ-loop
+mul-mixed c = search needs
 
-wide-requires : tie.Need-wide-requires Inv-loop μ-loop
-wide-requires c κs = search needs
+shared-slice-read-mixed : tie.Need-shared-slice-read-mixed Inv-loop μ-loop
+shared-slice-read-mixed c = search needs
 
 mixed-requires : tie.Need-mixed-requires Inv-loop μ-loop
 mixed-requires c κs = search needs
@@ -36,5 +36,5 @@ loop-again c = search needs
 returns : tie.Need-returns Inv-loop μ-loop
 returns c = search needs
 
-pub digest-spec : {M : Type 1} → statement M
-digest-spec = tie.close (tie.spec Inv-loop μ-loop loop-holds shared-slice-read-wide wide-requires mixed-requires add-i loop-less loop-again returns)
+pub digest-words-spec : {M : Type 1} → statement M
+digest-words-spec = tie.close (tie.spec Inv-loop μ-loop loop-holds mul-mixed shared-slice-read-mixed mixed-requires add-i loop-less loop-again returns)

@@ -1,8 +1,8 @@
 -- `within_words` meets its contract: what is at most a list's length is the length of that many of its elements.
 use native.Mathlib.Omega.{arith}
 use Rattle.beside_cases.proofs.Counted.{counts}
-use Rattle.beside_cases.proofs.within_words.Statement.{statement}
-use Rattle.beside_cases.proofs.within_words.Tie as tie
+use Rattle.beside_cases.proofs.case.within_words.Statement.{statement}
+use Rattle.beside_cases.proofs.case.within_words.Tie as tie
 
 returns : tie.Need-returns
 returns c = counts _ _ (omega arith)
