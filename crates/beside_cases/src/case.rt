@@ -77,31 +77,32 @@ pub fn host(case: &[u8]) -> &[u8] {
     octets::part(case, HEAD, up(number(case, HOST), number(case, ZEROS)))
 }
 
-// Reads what stands from one place to another, and answers how many bytes that are; none where that is not inside.
-fn take(case: &mut [u8], from: usize, to: usize) -> usize {
+// Reads the parts from k to the one before `end`; nothing where there is no room for them.
+fn take(case: &mut [u8], k: usize, end: usize) {
+    let from = start(case, k);
+    let to = start(case, end);
     if from <= to {
         if to <= case.len() {
-            return io::read_full(STDIN_FILENO, &mut case[from..to]);
+            io::read_full(STDIN_FILENO, &mut case[from..to]);
         }
     }
-    0
 }
 
 // Reads the parts of which the head is there, and puts the zeros that the script does not hold.
 fn take_parts(case: &mut [u8]) {
+    take(case, HOST, ZEROS);
     let zeros = start(case, ZEROS);
-    let rest = start(case, CONFIGURED);
-    let end = start(case, END);
-    take(case, HEAD, zeros);
     octets::put_zeros(case, zeros, number(case, ZEROS));
-    take(case, rest, end);
+    take(case, CONFIGURED, END);
 }
 
 // Reads a case; false where there is none left.
 pub fn take_case(case: &mut [u8]) -> bool {
-    if take(case, 0, HEAD) < HEAD {
+    let mut head = [0u8; HEAD];
+    if io::read_full(STDIN_FILENO, &mut head) < HEAD {
         return false;
     }
+    octets::put_bytes(case, 0, &head);
     take_parts(case);
     true
 }

@@ -35,19 +35,24 @@ fn put_ids(ids: &mut [u64], raw: &[u8]) {
     }
 }
 
+fn with_ids(
+    case: &[u8],
+    ids: &[u64],
+    work: &mut [u32],
+    list: &mut [u8],
+    guest: &mut [u8],
+) -> Answer {
+    let host = case::host(case);
+    let configured = case::part(case, case::CONFIGURED);
+    let excluded = case::part(case, case::EXCLUDED);
+    derive::derive(host, configured, excluded, ids, work, list, guest)
+}
+
 fn derived(case: &[u8], work: &mut [u32], list: &mut [u8], guest: &mut [u8]) -> Answer {
     let mut ids = [0u64; case::MOST_IDS];
     put_ids(&mut ids, case::part(case, case::IDS));
     let n = case::within_longs(case::number(case, case::IDS), &ids);
-    derive::derive(
-        case::host(case),
-        case::part(case, case::CONFIGURED),
-        case::part(case, case::EXCLUDED),
-        &ids[..n],
-        work,
-        list,
-        guest,
-    )
+    with_ids(case, &ids[..n], work, list, guest)
 }
 
 // Derives, and tells of it.

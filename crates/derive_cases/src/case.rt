@@ -81,50 +81,42 @@ pub fn start(case: &[u8], k: usize) -> usize {
     at
 }
 
-// The parts from k to the one before `end`.
-pub fn parts(case: &[u8], k: usize, end: usize) -> &[u8] {
-    let from = start(case, k);
-    let to = start(case, end);
-    if to <= from {
-        return octets::part(case, from, 0);
-    }
-    octets::part(case, from, to - from)
-}
-
 pub fn part(case: &[u8], k: usize) -> &[u8] {
     octets::part(case, start(case, k), size(case, k))
 }
 
 // The host, whose front, zeros and rest stand one behind the other.
 pub fn host(case: &[u8]) -> &[u8] {
-    parts(case, FRONT, CONFIGURED)
+    let rest = up(number(case, ZEROS), number(case, REST));
+    octets::part(case, start(case, FRONT), up(number(case, FRONT), rest))
 }
 
-// Reads what stands from one place to another, and answers how many bytes that are; none where that is not inside.
-fn take(case: &mut [u8], from: usize, to: usize) -> usize {
+// Reads the parts from k to the one before `end`; nothing where there is no room for them.
+fn take(case: &mut [u8], k: usize, end: usize) {
+    let from = start(case, k);
+    let to = start(case, end);
     if from <= to {
         if to <= case.len() {
-            return io::read_full(STDIN_FILENO, &mut case[from..to]);
+            io::read_full(STDIN_FILENO, &mut case[from..to]);
         }
     }
-    0
 }
 
 // Reads the parts of which the head is there, and puts the zeros that the script does not hold.
 fn take_parts(case: &mut [u8]) {
+    take(case, LABEL, ZEROS);
     let zeros = start(case, ZEROS);
-    let rest = start(case, REST);
-    let end = start(case, END);
-    take(case, HEAD, zeros);
     octets::put_zeros(case, zeros, number(case, ZEROS));
-    take(case, rest, end);
+    take(case, REST, END);
 }
 
 // Reads a case; false where there is none left.
 pub fn take_case(case: &mut [u8]) -> bool {
-    if take(case, 0, HEAD) < HEAD {
+    let mut head = [0u8; HEAD];
+    if io::read_full(STDIN_FILENO, &mut head) < HEAD {
         return false;
     }
+    octets::put_bytes(case, 0, &head);
     take_parts(case);
     true
 }

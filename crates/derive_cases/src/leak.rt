@@ -62,8 +62,20 @@ fn spanned(spans: &[u8]) -> usize {
     sum
 }
 
-// Makes `other` the case with the change of one run: a place, or ALL, and how.
-fn prepare(case: &[u8], other: &mut [u8], place: u32, how: u32) {
+// Where run k stands in the case.
+fn run_at(case: &[u8], k: usize) -> usize {
+    if k < 4294967296 {
+        up(case::start(case, case::RUNS), k * 8)
+    } else {
+        0
+    }
+}
+
+// Makes `other` the case with the change of run k: a place, or ALL, and how.
+fn prepare(case: &[u8], other: &mut [u8], k: usize) {
+    let at = run_at(case, k);
+    let place = octets::word(case, at);
+    let how = octets::word(case, up(at, 4));
     octets::put_bytes(other, 0, case);
     if place == ALL {
         change_all(other, case::part(case, case::SPANS), how);
@@ -77,6 +89,11 @@ fn prepare(case: &[u8], other: &mut [u8], place: u32, how: u32) {
     }
 }
 
+// 1 where an outcome is another than the first, else 0. What is behind it in its room is left aside.
+fn differs(out: &[u8], again: &[u8]) -> usize {
+    if octets::begins(out, again) { 0 } else { 1 }
+}
+
 // How many of the runs differ from the first outcome, each made in the room that is lent.
 fn differing(
     case: &[u8],
@@ -85,23 +102,13 @@ fn differing(
     other: &mut [u8; CASE],
     again: &mut [u8; OUT],
 ) -> usize {
-    let runs = case::part(case, case::RUNS);
     let mut count = 0;
-    let mut at = 0;
-    let mut left = runs.len() / 8;
+    let mut left = case::number(case, case::RUNS) / 8;
     while left > 0 {
-        prepare(
-            case,
-            other,
-            octets::word(runs, at),
-            octets::word(runs, up(at, 4)),
-        );
-        put_outcome(other, work, again);
-        if !octets::begins(out, again) {
-            count = up(count, 1);
-        }
-        at = up(at, 8);
         left -= 1;
+        prepare(case, other, left);
+        put_outcome(other, work, again);
+        count = up(count, differs(out, again));
     }
     count
 }

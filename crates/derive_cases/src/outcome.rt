@@ -29,19 +29,24 @@ fn put_ids(ids: &mut [u64], raw: &[u8]) {
     }
 }
 
+fn with_ids(
+    case: &[u8],
+    ids: &[u64],
+    work: &mut [u32],
+    list: &mut [u8],
+    guest: &mut [u8],
+) -> Answer {
+    let host = case::host(case);
+    let configured = case::part(case, case::CONFIGURED);
+    let excluded = case::part(case, case::EXCLUDED);
+    derive::derive(host, configured, excluded, ids, work, list, guest)
+}
+
 fn derived(case: &[u8], work: &mut [u32], list: &mut [u8], guest: &mut [u8]) -> Answer {
     let mut ids = [0u64; case::MOST_IDS];
     put_ids(&mut ids, case::part(case, case::IDS));
     let n = case::within_longs(case::number(case, case::IDS), &ids);
-    derive::derive(
-        case::host(case),
-        case::part(case, case::CONFIGURED),
-        case::part(case, case::EXCLUDED),
-        &ids[..n],
-        work,
-        list,
-        guest,
-    )
+    with_ids(case, &ids[..n], work, list, guest)
 }
 
 fn put(told: &mut [u8], number: u64, a: usize, b: usize, c: usize) {
@@ -65,6 +70,12 @@ fn lent(case: &[u8], work: &mut [u32], list: &mut [u8], guest: &mut [u8]) -> Ans
     derived(case, work, &mut list[..l], &mut guest[..g])
 }
 
+// Puts the buffers, of which the list has so many bytes.
+fn put_buffers(out: &mut [u8], list: &[u8], guest: &[u8], n: usize) {
+    octets::put_bytes(out, TOLD, octets::part(list, 0, n));
+    octets::put_bytes(out, up(TOLD, n), guest);
+}
+
 // Derives, and puts the outcome.
 fn put_derived(
     case: &[u8],
@@ -74,9 +85,7 @@ fn put_derived(
     out: &mut [u8],
 ) {
     put_answer(out, lent(case, work, list, guest));
-    let l = case::number(case, case::LIST);
-    octets::put_bytes(out, TOLD, octets::part(list, 0, l));
-    octets::put_bytes(out, up(TOLD, l), guest);
+    put_buffers(out, list, guest, case::number(case, case::LIST));
 }
 
 // Derives into buffers that show what is written, and puts the outcome. They are lent as arrays from here: a proof that has them at

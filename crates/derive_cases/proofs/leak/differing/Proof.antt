@@ -6,25 +6,19 @@ use Rattle.derive_cases.proofs.leak.differing.Statement.{statement}
 use Rattle.derive_cases.proofs.leak.differing.Tie as tie
 
 abbrev Inv-loop : tie.InvT-loop
-Inv-loop case work₀ out other₀ again₀ runs count₀ at₀ left₀ work other again count at left = length work ≡ length work₀
+Inv-loop case work₀ out other₀ again₀ count₀ left₀ work other again count left = length work ≡ length work₀
 
 abbrev μ-loop : tie.MeasureT-loop
-μ-loop case work₀ out other₀ again₀ runs count₀ at₀ left₀ work other again count at left = left
+μ-loop case work₀ out other₀ again₀ count₀ left₀ work other again count left = left
 
-part-requires : tie.Need-part-requires Inv-loop μ-loop
-part-requires c κs = search needs
+number-requires : tie.Need-number-requires Inv-loop μ-loop
+number-requires c κs = search needs
 
 loop-holds : tie.Need-loop-holds Inv-loop μ-loop
 loop-holds c = search needs
 
-word-requires : tie.Need-word-requires Inv-loop μ-loop
-word-requires c κs = search needs
-
-up-requires : tie.Need-up-requires Inv-loop μ-loop
-up-requires c κs = search needs
-
-word-requires-2 : tie.Need-word-requires-2 Inv-loop μ-loop
-word-requires-2 c κs = search needs
+sub-left : tie.Need-sub-left Inv-loop μ-loop
+sub-left c = search needs
 
 prepare-requires : tie.Need-prepare-requires Inv-loop μ-loop
 prepare-requires c κs = search needs
@@ -32,17 +26,11 @@ prepare-requires c κs = search needs
 put-outcome-requires : tie.Need-put-outcome-requires Inv-loop μ-loop
 put-outcome-requires c κs = search needs
 
-begins-requires : tie.Need-begins-requires Inv-loop μ-loop
-begins-requires c κs = search needs
+differs-requires : tie.Need-differs-requires Inv-loop μ-loop
+differs-requires c κs = search needs
 
-up-requires-2 : tie.Need-up-requires-2 Inv-loop μ-loop
-up-requires-2 c κs = search needs
-
-up-requires-3 : tie.Need-up-requires-3 Inv-loop μ-loop
-up-requires-3 c κs = search needs
-
-sub-left : tie.Need-sub-left Inv-loop μ-loop
-sub-left c = search needs
+up-requires : tie.Need-up-requires Inv-loop μ-loop
+up-requires c κs = search needs
 
 loop-less : tie.Need-loop-less Inv-loop μ-loop
 loop-less c = search needs
@@ -62,17 +50,13 @@ differing-spec =
     (tie.spec
     Inv-loop
     μ-loop
-    part-requires
+    number-requires
     loop-holds
-    word-requires
-    up-requires
-    word-requires-2
+    sub-left
     prepare-requires
     put-outcome-requires
-    begins-requires
-    up-requires-2
-    up-requires-3
-    sub-left
+    differs-requires
+    up-requires
     loop-less
     loop-again
     same-length
