@@ -81,11 +81,12 @@ class Case:
         label, at, n = self.label.encode(), *longest_zeros(self.host)
         spans, runs = b"".join(w(*s) for s in self.spans), b"".join(w(*r) for r in self.runs)
         front, rest = self.host[:at], self.host[at + n:]
-        assert len(label) <= 256 and len(rest) <= 66000 and len(self.ids) <= 66 and len(self.configured) <= 66000
-        assert not runs or max(len(self.host), self.list, self.guest, len(spans), len(runs)) <= 66000
-        return (w(len(label), len(front), n, len(rest), len(self.configured), len(self.excluded), len(self.ids), self.words, self.list,
+        case = (w(len(label), len(front), n, len(rest), len(self.configured), len(self.excluded), len(self.ids), self.words, self.list,
                   self.guest, len(spans), len(runs))
                 + label + front + rest + self.configured + self.excluded + b"".join(struct.pack(">Q", n) for n in self.ids) + spans + runs)
+        assert len(case) + n <= 1048640 + 66000 and len(self.ids) <= 66 and self.list <= 66000
+        assert not runs or len(case) + n <= 66000 and self.list + self.guest <= 66000
+        return case
 
     def wanted(self):
         answer = self.derived(self.host)

@@ -1,30 +1,18 @@
-// Derives again from a host of which some bytes are changed, and counts the runs whose answer, list or guest is not the first one's.
-// The script says which bytes: those that are withheld, and, so that a difference is seen to be one, some that are not.
-use crate::told::TOLD;
-use crate::told::print_number;
-use crate::told::put_answer;
+// Derives again from a host of which some bytes are changed, and counts the runs whose outcome is not the first one's. The script
+// says which bytes: those that are withheld, and, so that a difference is seen to be one, some that are not.
+use crate::case;
+use crate::case::up;
+use crate::outcome::TOLD;
+use crate::outcome::print_number;
+use crate::outcome::put_outcome;
 
 // What stands for all the spans where a run names the byte to change.
 const ALL: u32 = 0xffffffff;
 
-// A place n further on. No place of a blob comes near the bound, which keeps the sum from wrapping.
-pub fn up(at: usize, n: usize) -> usize {
-    if at < 4294967296 {
-        if n < 4294967296 {
-            return at + n;
-        }
-    }
-    at
-}
+// Room for a case that is run again, and for its outcome.
+const CASE: usize = 66000;
 
-// Fills a buffer with what shows that nothing was written.
-pub fn fill(buf: &mut [u8]) {
-    let mut i = 0;
-    while i < buf.len() {
-        buf[i] = 0xa5;
-        i += 1;
-    }
-}
+const OUT: usize = TOLD + 66000;
 
 fn changed(b: u8, how: u32) -> u8 {
     if how == 0 {
@@ -36,29 +24,26 @@ fn changed(b: u8, how: u32) -> u8 {
     b ^ 0x55
 }
 
-fn change(host: &mut [u8], at: usize, how: u32) {
-    let b = changed(octets::byte(host, at), how);
-    octets::put_bytes(host, at, &[b]);
-}
-
-fn change_span(host: &mut [u8], from: usize, n: usize, how: u32) {
+fn change(case: &mut [u8], from: usize, n: usize, how: u32) {
     let mut at = from;
     let mut left = n;
     while left > 0 {
-        change(host, at, how);
+        let b = changed(octets::byte(case, at), how);
+        octets::put_bytes(case, at, &[b]);
         at = up(at, 1);
         left -= 1;
     }
 }
 
-// Changes all the spans, each a place and a length.
-fn change_all(host: &mut [u8], spans: &[u8], how: u32) {
+// Changes all the spans of the host, each a place and a length.
+fn change_all(case: &mut [u8], spans: &[u8], how: u32) {
+    let host = case::start(case, case::FRONT);
     let mut at = 0;
     let mut left = spans.len() / 8;
     while left > 0 {
         let from = octets::word(spans, at) as usize;
         let n = octets::word(spans, up(at, 4)) as usize;
-        change_span(host, from, n, how);
+        change(case, up(host, from), n, how);
         at = up(at, 8);
         left -= 1;
     }
@@ -77,122 +62,74 @@ fn spanned(spans: &[u8]) -> usize {
     sum
 }
 
-// Makes `other` the host with the change of one run: a place, or ALL, and how.
-fn prepare(host: &[u8], other: &mut [u8], spans: &[u8], runs: &[u8], at: usize) {
-    let place = octets::word(runs, at);
-    let how = octets::word(runs, up(at, 4));
-    octets::put_bytes(other, 0, host);
-    if place == ALL {
-        change_all(other, spans, how);
+// Where run k stands in the case.
+fn run_at(case: &[u8], k: usize) -> usize {
+    if k < 4294967296 {
+        up(case::start(case, case::RUNS), k * 8)
     } else {
-        change(other, place as usize, how);
+        0
     }
 }
 
-// Whether deriving from this host gives other numbers, or leaves another list or guest.
-fn differs(
-    host: &[u8],
-    configured: &[u8],
-    excluded: &[u8],
-    ids: &[u64],
-    work: &mut [u32],
-    told: &[u8],
-    list: &[u8],
-    guest: &[u8],
-    list_again: &mut [u8],
-    guest_again: &mut [u8],
-) -> bool {
-    let mut again = [0u8; TOLD];
-    fill(list_again);
-    fill(guest_again);
-    let answer = derive::derive(
-        host,
-        configured,
-        excluded,
-        ids,
-        work,
-        list_again,
-        guest_again,
-    );
-    put_answer(&mut again, answer);
-    !(octets::same(told, &again)
-        && octets::same(list, list_again)
-        && octets::same(guest, guest_again))
+// Makes `other` the case with the change of run k: a place, or ALL, and how.
+fn prepare(case: &[u8], other: &mut [u8], k: usize) {
+    let at = run_at(case, k);
+    let place = octets::word(case, at);
+    let how = octets::word(case, up(at, 4));
+    octets::put_bytes(other, 0, case);
+    if place == ALL {
+        change_all(other, case::part(case, case::SPANS), how);
+    } else {
+        change(
+            other,
+            up(case::start(case, case::FRONT), place as usize),
+            1,
+            how,
+        );
+    }
 }
 
-// How many of the runs differ from the first answer.
+// 1 where an outcome is another than the first, else 0. What is behind it in its room is left aside.
+fn differs(out: &[u8], again: &[u8]) -> usize {
+    if octets::begins(out, again) { 0 } else { 1 }
+}
+
+// How many of the runs differ from the first outcome, each made in the room that is lent.
 fn differing(
-    host: &[u8],
-    other: &mut [u8],
-    configured: &[u8],
-    excluded: &[u8],
-    ids: &[u64],
+    case: &[u8],
     work: &mut [u32],
-    told: &[u8],
-    list: &[u8],
-    guest: &[u8],
-    list_again: &mut [u8],
-    guest_again: &mut [u8],
-    spans: &[u8],
-    runs: &[u8],
+    out: &[u8],
+    other: &mut [u8; CASE],
+    again: &mut [u8; OUT],
 ) -> usize {
     let mut count = 0;
-    let mut at = 0;
-    let mut left = runs.len() / 8;
+    let mut left = case::number(case, case::RUNS) / 8;
     while left > 0 {
-        prepare(host, other, spans, runs, at);
-        if differs(
-            other,
-            configured,
-            excluded,
-            ids,
-            work,
-            told,
-            list,
-            guest,
-            list_again,
-            guest_again,
-        ) {
-            count = up(count, 1);
-        }
-        at = up(at, 8);
         left -= 1;
+        prepare(case, other, left);
+        put_outcome(other, work, again);
+        count = up(count, differs(out, again));
     }
     count
 }
 
-// Runs all, and prints how many bytes the spans have, how many runs there were, and how many of them differ.
-pub fn report(
-    host: &[u8],
-    other: &mut [u8],
-    configured: &[u8],
-    excluded: &[u8],
-    ids: &[u64],
-    work: &mut [u32],
-    told: &[u8],
-    list: &[u8],
-    guest: &[u8],
-    list_again: &mut [u8],
-    guest_again: &mut [u8],
-    spans: &[u8],
-    runs: &[u8],
-) {
-    let count = differing(
-        host,
-        other,
-        configured,
-        excluded,
-        ids,
-        work,
-        told,
-        list,
-        guest,
-        list_again,
-        guest_again,
-        spans,
-        runs,
-    );
-    print_number(b", bytes ", spanned(spans) as u64);
-    print_number(b" runs ", (runs.len() / 8) as u64);
+fn compared(case: &[u8], work: &mut [u32], out: &[u8]) -> usize {
+    let mut other = [0u8; CASE];
+    let mut again = [0u8; OUT];
+    differing(case, work, out, &mut other, &mut again)
+}
+
+// Prints how many bytes the spans have, how many runs there were, and how many of them differ.
+fn print_runs(case: &[u8], count: usize) {
+    print_number(b", bytes ", spanned(case::part(case, case::SPANS)) as u64);
+    print_number(b" runs ", (case::number(case, case::RUNS) / 8) as u64);
     print_number(b" differ ", count as u64);
+}
+
+// Runs all that the case says to run again, and where there is any, prints what came of it.
+pub fn report(case: &[u8], work: &mut [u32], out: &[u8]) {
+    let count = compared(case, work, out);
+    if case::number(case, case::RUNS) > 0 {
+        print_runs(case, count);
+    }
 }

@@ -4,10 +4,10 @@ use Rattle.beside_cases.proofs.main.Statement.{statement}
 use Rattle.beside_cases.proofs.main.Tie as tie
 
 abbrev Inv-loop : tie.InvT-loop
-Inv-loop host₀ configured₀ excluded₀ work₀ list₀ guest₀ turns₀ host configured excluded work list guest turns = Unit {0}
+Inv-loop case₀ turns₀ case turns = Unit {0}
 
 abbrev μ-loop : tie.MeasureT-loop
-μ-loop host₀ configured₀ excluded₀ work₀ list₀ guest₀ turns₀ host configured excluded work list guest turns = turns
+μ-loop case₀ turns₀ case turns = turns
 
 loop-holds : tie.Need-loop-holds Inv-loop μ-loop
 loop-holds c = search needs

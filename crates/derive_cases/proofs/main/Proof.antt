@@ -4,10 +4,10 @@ use Rattle.derive_cases.proofs.main.Statement.{statement}
 use Rattle.derive_cases.proofs.main.Tie as tie
 
 abbrev Inv-loop : tie.InvT-loop
-Inv-loop host₀ rest₀ guest₀ turns₀ host rest guest turns = Unit {0}
+Inv-loop case₀ out₀ turns₀ case out turns = Unit {0}
 
 abbrev μ-loop : tie.MeasureT-loop
-μ-loop host₀ rest₀ guest₀ turns₀ host rest guest turns = turns
+μ-loop case₀ out₀ turns₀ case out turns = turns
 
 loop-holds : tie.Need-loop-holds Inv-loop μ-loop
 loop-holds c = search needs

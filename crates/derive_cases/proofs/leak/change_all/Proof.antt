@@ -1,15 +1,18 @@
--- `change_all` ends, and keeps the host's length.
-use mathlib.Core.Path.{_≡_}
+-- `change_all` ends, and keeps the length.
 use borrow.Author.Needs.{needs}
+use mathlib.Core.Path.{_≡_}
 use lib.ListN.{length}
 use Rattle.derive_cases.proofs.leak.change_all.Statement.{statement}
 use Rattle.derive_cases.proofs.leak.change_all.Tie as tie
 
 abbrev Inv-loop : tie.InvT-loop
-Inv-loop host₀ spans how at₀ left₀ host at left = length host ≡ length host₀
+Inv-loop case₀ spans how host at₀ left₀ case at left = length case ≡ length case₀
 
 abbrev μ-loop : tie.MeasureT-loop
-μ-loop host₀ spans how at₀ left₀ host at left = left
+μ-loop case₀ spans how host at₀ left₀ case at left = left
+
+start-requires : tie.Need-start-requires Inv-loop μ-loop
+start-requires c κs = search needs
 
 loop-holds : tie.Need-loop-holds Inv-loop μ-loop
 loop-holds c = search needs
@@ -29,11 +32,14 @@ word-requires-2 c κs = search needs
 cast-n : tie.Need-cast-n Inv-loop μ-loop
 cast-n c = search needs
 
-change-span-requires : tie.Need-change-span-requires Inv-loop μ-loop
-change-span-requires c κs = search needs
-
 up-requires-2 : tie.Need-up-requires-2 Inv-loop μ-loop
 up-requires-2 c κs = search needs
+
+change-requires : tie.Need-change-requires Inv-loop μ-loop
+change-requires c κs = search needs
+
+up-requires-3 : tie.Need-up-requires-3 Inv-loop μ-loop
+up-requires-3 c κs = search needs
 
 sub-left : tie.Need-sub-left Inv-loop μ-loop
 sub-left c = search needs
@@ -56,14 +62,16 @@ change-all-spec =
     (tie.spec
     Inv-loop
     μ-loop
+    start-requires
     loop-holds
     word-requires
     cast-from
     up-requires
     word-requires-2
     cast-n
-    change-span-requires
     up-requires-2
+    change-requires
+    up-requires-3
     sub-left
     loop-less
     loop-again
