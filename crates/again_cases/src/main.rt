@@ -12,10 +12,8 @@ use reader::Answer;
 use writer::Written;
 ghost use Rattle.io.specs.Counts.{Counts};
 
-// Room for the longest blob, for the strings of the second one, and for the reader.
+// Room for the longest blob, and for the reader.
 const BLOB: usize = 1048640;
-
-const STRINGS: usize = 65536;
 
 const WORDS: usize = 16384;
 
@@ -56,68 +54,53 @@ fn take_at(into: &mut [u8], place: usize, n: usize) -> usize {
     take(&mut into[at..], n)
 }
 
+fn read(blob: &[u8]) -> Answer {
+    let mut work = [0u32; WORDS];
+    reader::read(blob, &mut work)
+}
+
 // What the second reading answers of the blob that was written.
-fn judge(blob: &[u8], second: &[u8], count: usize, work: &mut [u32]) {
-    match reader::read(second, work) {
+fn judge(blob: &[u8], second: &[u8], count: usize) {
+    match read(second) {
         Answer::Refused(refusal) => told::refused(refusal),
         Answer::Nodes(again) => told::verdict(count == again && compare::same(blob, second)),
     }
 }
 
-// Writes an accepted blob again, and prints what came of it.
-fn trip(
-    label: &[u8],
-    blob: &[u8],
-    count: usize,
-    data: &mut [u8],
-    strings: &mut [u8],
-    work: &mut [u32],
-) {
+// Prints what came of the second blob.
+fn written(label: &[u8], blob: &[u8], count: usize, second: &[u8]) {
+    told::length(second.len());
+    told::digests(compare::events(blob), compare::events(second));
+    judge(blob, second, count);
+    if second.len() <= SHOWN {
+        told::shown(label, second);
+    }
+}
+
+// Writes an accepted blob again, with no more than `room` bytes lent for it, and prints what came of it.
+fn trip(label: &[u8], blob: &[u8], count: usize, room: usize, data: &mut [u8]) {
     told::nodes(count);
-    match rewrite::again(blob, data, strings) {
+    let m = within(room, data);
+    match rewrite::again(blob, &mut data[..m]) {
         Written::Refused(_, error) => {
             told::stopped(error);
         }
         Written::Done(w) => {
-            let second = octets::part(data, 0, w.data_len);
-            told::length(second.len());
-            told::digests(compare::events(blob), compare::events(second));
-            judge(blob, second, count, work);
-            if second.len() <= SHOWN {
-                told::shown(label, second);
-            }
+            written(label, blob, count, octets::part(data, 0, w.data_len));
         }
     }
 }
 
-fn run(label: &[u8], blob: &[u8], data: &mut [u8], strings: &mut [u8], work: &mut [u32]) {
+fn run(label: &[u8], blob: &[u8], room: usize, data: &mut [u8]) {
     io::write_all(STDOUT_FILENO, label);
-    match reader::read(blob, work) {
+    match read(blob) {
         Answer::Refused(refusal) => told::refused(refusal),
-        Answer::Nodes(count) => trip(label, blob, count, data, strings, work),
+        Answer::Nodes(count) => trip(label, blob, count, room, data),
     }
 }
 
-// Runs a case with no more than `room` bytes for the second blob.
-fn lend(
-    label: &[u8],
-    blob: &[u8],
-    room: usize,
-    data: &mut [u8],
-    strings: &mut [u8],
-    work: &mut [u32],
-) {
-    let m = within(room, data);
-    run(label, blob, &mut data[..m], strings, work);
-}
-
 // One case; false where there is none left.
-fn next(
-    blob: &mut [u8; BLOB],
-    data: &mut [u8; BLOB],
-    strings: &mut [u8; STRINGS],
-    work: &mut [u32; WORDS],
-) -> bool {
+fn next(blob: &mut [u8; BLOB], data: &mut [u8; BLOB]) -> bool {
     let mut head = [0u8; HEAD];
     let got = io::read_full(STDIN_FILENO, &mut head);
     if got < HEAD {
@@ -130,13 +113,11 @@ fn next(
     octets::put_zeros(blob, front, zeros);
     let place = compare::up(front, zeros);
     let rest = take_at(blob, place, number(&head, 12));
-    lend(
+    run(
         octets::part(&label, 0, text),
         octets::part(blob, 0, compare::up(place, rest)),
         number(&head, 16),
         data,
-        strings,
-        work,
     );
     true
 }
@@ -144,10 +125,8 @@ fn next(
 fn main() {
     let mut blob = [0u8; BLOB];
     let mut data = [0u8; BLOB];
-    let mut strings = [0u8; STRINGS];
-    let mut work = [0u32; WORDS];
     let mut turns: u32 = 100000;
-    while turns > 0 && next(&mut blob, &mut data, &mut strings, &mut work) {
+    while turns > 0 && next(&mut blob, &mut data) {
         turns -= 1;
     }
 }

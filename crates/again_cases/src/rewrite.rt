@@ -11,6 +11,9 @@ use writer::Error;
 use writer::FdtWriter;
 use writer::Written;
 
+// Room for the strings of the second blob.
+const STRINGS: usize = 65536;
+
 // The first reservations of a blob, how many it has, and whether one is none that `Reservation::new` makes.
 struct Kept {
     rs: [Reservation; RESERVATION_CEILING],
@@ -204,7 +207,7 @@ fn calls(
 }
 
 // What follows the start: the calls of the tokens, and finish.
-fn rest(start: FdtWriter, blob: &[u8], data: &mut [u8], strings: &mut [u8]) -> Written {
+fn rest(start: FdtWriter, blob: &[u8], data: &mut [u8], strings: &mut [u8; STRINGS]) -> Written {
     let answer = calls(
         start,
         compare::structure(blob),
@@ -219,15 +222,16 @@ fn rest(start: FdtWriter, blob: &[u8], data: &mut [u8], strings: &mut [u8]) -> W
 }
 
 // The second blob, or what refused it.
-pub fn again(blob: &[u8], data: &mut [u8], strings: &mut [u8]) -> Written {
+pub fn again(blob: &[u8], data: &mut [u8]) -> Written {
     let answer = start(blob, data);
     let Written::Done(w) = answer else {
         return answer;
     };
+    let mut strings = [0u8; STRINGS];
     rest(
         w.set_boot_cpuid_phys(octets::word(blob, 28)),
         blob,
         data,
-        strings,
+        &mut strings,
     )
 }

@@ -40,16 +40,25 @@ struct Session {
     phandles: usize,
 }
 
+impl Session {
+    fn with(mut self, w: FdtWriter) -> Session {
+        self.w = w;
+        self
+    }
+}
+
 enum Turn {
     More(Session),
     Over,
 }
 
-// A question: its letter and its two numbers.
+// A question: its letter, its two numbers, and how many bytes of name and value there are.
 struct Asked {
     op: u8,
     a: u64,
     b: u64,
+    name: usize,
+    val: usize,
 }
 
 // n, or how many there are where n is more; said so that a part of that length may be lent.
@@ -60,6 +69,12 @@ fn within(n: usize, buf: &[u8]) -> usize
 }
 
 fn within_words(n: usize, buf: &[u32]) -> usize
+    ensures { λ r. ⌜ Counts r (now (buf .entry)) ⌝ }
+{
+    if n < buf.len() { n } else { buf.len() }
+}
+
+fn within_longs(n: usize, buf: &[u64]) -> usize
     ensures { λ r. ⌜ Counts r (now (buf .entry)) ⌝ }
 {
     if n < buf.len() { n } else { buf.len() }
@@ -129,29 +144,33 @@ fn altered(mut w: FdtWriter, field: u64, n: usize) -> FdtWriter {
     w
 }
 
+fn words(val: &[u8]) -> [u32; 3] {
+    [
+        octets::word(val, 0),
+        octets::word(val, 4),
+        octets::word(val, 8),
+    ]
+}
+
+fn longs(val: &[u8]) -> [u64; 3] {
+    [
+        octets::long(val, 0),
+        octets::long(val, 8),
+        octets::long(val, 16),
+    ]
+}
+
 // The numbers that the value spells, up to three.
 fn cells(w: FdtWriter, data: &mut [u8], strings: &mut [u8], name: &[u8], val: &[u8]) -> Written {
-    let a = octets::word(val, 0);
-    let b = octets::word(val, 4);
-    let c = octets::word(val, 8);
-    match val.len() / 4 {
-        0 => w.property_array_u32(data, strings, name, &[]),
-        1 => w.property_array_u32(data, strings, name, &[a]),
-        2 => w.property_array_u32(data, strings, name, &[a, b]),
-        _ => w.property_array_u32(data, strings, name, &[a, b, c]),
-    }
+    let all = words(val);
+    let n = within_words(val.len() / 4, &all);
+    w.property_array_u32(data, strings, name, &all[..n])
 }
 
 fn doubles(w: FdtWriter, data: &mut [u8], strings: &mut [u8], name: &[u8], val: &[u8]) -> Written {
-    let a = octets::long(val, 0);
-    let b = octets::long(val, 8);
-    let c = octets::long(val, 16);
-    match val.len() / 8 {
-        0 => w.property_array_u64(data, strings, name, &[]),
-        1 => w.property_array_u64(data, strings, name, &[a]),
-        2 => w.property_array_u64(data, strings, name, &[a, b]),
-        _ => w.property_array_u64(data, strings, name, &[a, b, c]),
-    }
+    let all = longs(val);
+    let n = within_longs(val.len() / 8, &all);
+    w.property_array_u64(data, strings, name, &all[..n])
 }
 
 // The calls that take a property's name.
@@ -165,14 +184,30 @@ fn property(
 ) -> Written {
     let op = q.op;
     match op {
-        b'p' => w.property(data, strings, name, val),
-        b'z' => w.property_null(data, strings, name),
-        b't' => w.property_string(data, strings, name, val),
-        b'k' => w.property_string_list(data, strings, name, val),
-        b'w' => w.property_u32(data, strings, name, word(q.a)),
-        b'q' => w.property_u64(data, strings, name, q.a),
-        b'c' => cells(w, data, strings, name, val),
-        _ => doubles(w, data, strings, name, val),
+        b'p' => {
+            return w.property(data, strings, name, val);
+        }
+        b'z' => {
+            return w.property_null(data, strings, name);
+        }
+        b't' => {
+            return w.property_string(data, strings, name, val);
+        }
+        b'k' => {
+            return w.property_string_list(data, strings, name, val);
+        }
+        b'w' => {
+            return w.property_u32(data, strings, name, word(q.a));
+        }
+        b'q' => {
+            return w.property_u64(data, strings, name, q.a);
+        }
+        b'c' => {
+            return cells(w, data, strings, name, val);
+        }
+        _ => {
+            return doubles(w, data, strings, name, val);
+        }
     }
 }
 
@@ -188,15 +223,33 @@ fn call(
 ) -> Written {
     let op = q.op;
     match op {
-        b'0' => FdtWriter::new(data),
-        b's' => start(data, q.a as usize, val),
-        b'b' => w.begin_node(data, name),
-        b'e' => w.end_node(data, q.a as usize),
-        b'h' => w.property_phandle(data, strings, phandles, word(q.a)),
-        b'f' => w.finish(data, strings),
-        b'i' => Written::Done(w.set_boot_cpuid_phys(word(q.a))),
-        b'a' => Written::Done(altered(w, q.a, q.b as usize)),
-        _ => property(q, w, data, strings, name, val),
+        b'0' => {
+            return FdtWriter::new(data);
+        }
+        b's' => {
+            return start(data, q.a as usize, val);
+        }
+        b'b' => {
+            return w.begin_node(data, name);
+        }
+        b'e' => {
+            return w.end_node(data, q.a as usize);
+        }
+        b'h' => {
+            return w.property_phandle(data, strings, phandles, word(q.a));
+        }
+        b'f' => {
+            return w.finish(data, strings);
+        }
+        b'i' => {
+            return Written::Done(w.set_boot_cpuid_phys(word(q.a)));
+        }
+        b'a' => {
+            return Written::Done(altered(w, q.a, q.b as usize));
+        }
+        _ => {
+            return property(q, w, data, strings, name, val);
+        }
     }
 }
 
@@ -248,7 +301,7 @@ fn refers(name: &[u8], cells: &[u8]) {
 fn made(address: u64, size: u64) {
     match Reservation::new(address, size) {
         Made::Reserved(r) => tell::made(0, r.address(), r.size()),
-        Made::InvalidMemoryReservation => tell::made(27, 0, 0),
+        Made::InvalidMemoryReservation => tell::made(0x27, 0, 0),
     }
 }
 
@@ -285,12 +338,7 @@ fn on(
         name,
         val,
     );
-    Session {
-        w: after,
-        data: d,
-        strings: t,
-        phandles: p,
-    }
+    s.with(after)
 }
 
 fn answer(
@@ -342,38 +390,44 @@ fn spelt(raw: &[u8; RAW], at: usize, n: usize, out: &mut [u8; TEXT]) -> usize {
     unhex(octets::part(raw, at, n), out)
 }
 
-// The second line of a question, and its answer. Its last character, the line's end, is of neither.
-fn behind(
-    q: Asked,
-    s: Session,
-    name_chars: u16,
-    val_chars: u16,
-    data: &mut [u8; DATA],
-    strings: &mut [u8; STRINGS],
-    phandles: &mut [u32; PHANDLES],
-) -> Session {
-    let n = name_chars as usize;
-    let m = val_chars as usize;
+// The second line of a question: its name and its value. Its last character, the line's end, is of neither.
+fn behind(head: &[u8; HEAD], name: &mut [u8; TEXT], val: &mut [u8; TEXT]) -> Asked {
+    let n = count(head, 36) as usize;
+    let m = count(head, 41) as usize;
     let mut raw = [0u8; RAW];
     take(&mut raw, n + m + 1);
-    let mut name = [0u8; TEXT];
-    let mut val = [0u8; TEXT];
-    let k = spelt(&raw, 0, n, &mut name);
-    let l = spelt(&raw, n, m, &mut val);
-    answer(q, s, data, strings, phandles, text(&name, k), text(&val, l))
-}
-
-fn question(head: &[u8; HEAD]) -> Asked {
     Asked {
         op: octets::byte(head, 0),
         a: number(octets::part(head, 2, 16)),
         b: number(octets::part(head, 19, 16)),
+        name: spelt(&raw, 0, n, name),
+        val: spelt(&raw, n, m, val),
     }
 }
 
 // How many characters a field of four says.
 fn count(head: &[u8; HEAD], at: usize) -> u16 {
     (number(octets::part(head, at, 4)) % 65536) as u16
+}
+
+// No question: there is none left.
+fn over() -> Asked {
+    Asked {
+        op: 0,
+        a: 0,
+        b: 0,
+        name: 0,
+        val: 0,
+    }
+}
+
+fn question(name: &mut [u8; TEXT], val: &mut [u8; TEXT]) -> Asked {
+    let mut head = [0u8; HEAD];
+    let got = io::read_full(STDIN_FILENO, &mut head);
+    if got < HEAD {
+        return over();
+    }
+    behind(&head, name, val)
 }
 
 // One question; Over where there is none left.
@@ -383,15 +437,15 @@ fn next(
     strings: &mut [u8; STRINGS],
     phandles: &mut [u32; PHANDLES],
 ) -> Turn {
-    let mut head = [0u8; HEAD];
-    let got = io::read_full(STDIN_FILENO, &mut head);
-    if got < HEAD {
+    let mut name = [0u8; TEXT];
+    let mut val = [0u8; TEXT];
+    let q = question(&mut name, &mut val);
+    if q.op == 0 {
         return Turn::Over;
     }
-    let q = question(&head);
-    let n = count(&head, 36);
-    let m = count(&head, 41);
-    Turn::More(behind(q, s, n, m, data, strings, phandles))
+    let n = text(&name, q.name);
+    let v = text(&val, q.val);
+    Turn::More(answer(q, s, data, strings, phandles, n, v))
 }
 
 fn main() {

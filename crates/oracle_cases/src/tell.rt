@@ -92,20 +92,27 @@ fn blank() -> [u8; LINE] {
     line
 }
 
+fn refusal(answer: Written) -> u64 {
+    match answer {
+        Written::Done(_) => 0,
+        Written::Refused(_, e) => number(e),
+    }
+}
+
+fn after(answer: Written) -> FdtWriter {
+    match answer {
+        Written::Done(w) => w,
+        Written::Refused(w, _) => w,
+    }
+}
+
 // Writes the line of a call: its refusal or 00, the state that it hands back (lengths of data, structure's offset, strings and
 // phandle table, the depth, whether a node was ended, whether it is finished, the boot CPU), and digests of data, strings and
 // phandle table. Hands back the state.
 pub(crate) fn told(answer: Written, data: &[u8], strings: &[u8], phandles: &[u32]) -> FdtWriter {
-    let mut refusal: u64 = 0;
-    let w = match answer {
-        Written::Done(w) => w,
-        Written::Refused(w, e) => {
-            refusal = number(e);
-            w
-        }
-    };
+    let w = after(answer);
     let mut line = blank();
-    put(&mut line, 0, refusal, 2);
+    put(&mut line, 0, refusal(answer), 2);
     state(&mut line, w);
     put(&mut line, 101, digest(data), 8);
     put(&mut line, 110, digest(strings), 8);
@@ -136,7 +143,7 @@ pub(crate) fn refers(reference: bool, cells: bool) {
 pub(crate) fn made(refusal: u64, address: u64, size: u64) {
     let mut line = [b' '; LINE];
     line[36] = b'\n';
-    put(&mut line, 0, if refusal == 27 { 0x27 } else { 0 }, 2);
+    put(&mut line, 0, refusal, 2);
     put(&mut line, 3, address, 16);
     put(&mut line, 20, size, 16);
     show(&line, 37);

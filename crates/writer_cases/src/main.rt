@@ -2,6 +2,9 @@
 // number of its refusal or 0, its place; of the state handed back the lengths of data, strings and phandle table, the depth,
 // whether a node was ended, whether it is finished, the boot CPU; and digests of data, strings and phandle table. Buffers
 // begin as bytes 238 and numbers 7, so that what is not written shows.
+//
+// The script is cases, an empty line between two. A case is a line `CASE DATA STRINGS PHANDLES`, how much of each is lent, and
+// then its calls; or it is `made ADDRESS SIZE`.
 mod script;
 mod tell;
 
@@ -9,27 +12,50 @@ use libc::STDIN_FILENO;
 use reservation::Made;
 use reservation::Reservation;
 use rules::BLOB_CEILING;
-use script::bytes;
 use script::count;
-use script::field1;
-use script::field2;
-use script::field3;
-use script::field4;
-use script::field5;
-use script::field6;
-use script::field7;
+use script::field;
 use script::number;
 use script::span;
-use script::text;
 use script::word;
-use tell::told;
 use writer::FdtWriter;
 use writer::Written;
-ghost use Prim.Native.Nat.{_≤_};
-ghost use lib.ListN.{length};
+ghost use Rattle.io.specs.Counts.{Counts};
 
 // As much data as a case can be lent: more than counts.
 const DATA_LENT: usize = BLOB_CEILING + 8;
+
+const STRINGS_LENT: usize = 4096;
+
+const PHANDLES_LENT: usize = 8;
+
+// The writer's state, how much of each buffer is lent, and whether the next line is the first of a case.
+struct Session {
+    w: FdtWriter,
+    data: usize,
+    strings: usize,
+    phandles: usize,
+    first: bool,
+}
+
+impl Session {
+    fn with(mut self, w: FdtWriter) -> Session {
+        self.w = w;
+        self
+    }
+}
+
+// n, or how many there are where n is more; said so that a part of that length may be lent.
+fn within(n: usize, buf: &[u8]) -> usize
+    ensures { λ r. ⌜ Counts r (now (buf .entry)) ⌝ }
+{
+    if n < buf.len() { n } else { buf.len() }
+}
+
+fn within_words(n: usize, buf: &[u32]) -> usize
+    ensures { λ r. ⌜ Counts r (now (buf .entry)) ⌝ }
+{
+    if n < buf.len() { n } else { buf.len() }
+}
 
 // The reservation, or r where there is none such.
 fn entry(address: u64, size: u64, r: Reservation) -> Reservation {
@@ -39,43 +65,39 @@ fn entry(address: u64, size: u64, r: Reservation) -> Reservation {
     }
 }
 
-fn valid(address: u64, size: u64) -> bool {
-    match Reservation::new(address, size) {
-        Made::Reserved(_) => true,
-        Made::InvalidMemoryReservation => false,
+// One of those of `start COUNT ADDRESS SIZE ..`, or of `rows COUNT`, which lie apart.
+fn nth(line: &[u8], i: usize, r: Reservation) -> Reservation {
+    if i < 32 {
+        if octets::byte(line, 0) == b'r' {
+            return entry((i * 16) as u64, 8, r);
+        }
+        return entry(number(line, i * 2 + 2), number(line, i * 2 + 3), r);
     }
+    r
 }
 
-// Thirty-two that lie apart.
-fn rows(r: Reservation) -> [Reservation; 32] {
+fn entries(line: &[u8], r: Reservation) -> [Reservation; 32] {
     let mut rs = [r; 32];
-    let mut address: u64 = 0;
     let mut i = 0;
     while i < 32 {
-        rs[i] = entry(address, 8, r);
-        address += 16;
+        rs[i] = nth(line, i, r);
         i += 1;
     }
     rs
 }
 
-// `start COUNT ADDRESS SIZE ..`, with up to three, or `rows COUNT`.
-fn start(line: &[u8], r: Reservation, data: &mut [u8]) -> Written {
-    let n = number(field1(line)) as usize;
-    if octets::byte(line, 0) == b'r' {
-        return FdtWriter::new_with_mem_reserv(data, rows(r), n);
+fn start(line: &[u8], data: &mut [u8]) -> Written {
+    match Reservation::new(0, 1) {
+        Made::Reserved(r) => {
+            FdtWriter::new_with_mem_reserv(data, entries(line, r), count(line, 1))
+        }
+        Made::InvalidMemoryReservation => FdtWriter::new(data),
     }
-    let mut rs = [r; 32];
-    rs[0] = entry(number(field2(line)), number(field3(line)), r);
-    rs[1] = entry(number(field4(line)), number(field5(line)), r);
-    rs[2] = entry(number(field6(line)), number(field7(line)), r);
-    FdtWriter::new_with_mem_reserv(data, rs, n)
 }
 
 // `alter FIELD NUMBER`: a state with another number.
-fn altered(line: &[u8], mut w: FdtWriter) -> FdtWriter {
-    let n = number(field2(line)) as usize;
-    match number(field1(line)) {
+fn altered(mut w: FdtWriter, k: u64, n: usize) -> FdtWriter {
+    match k {
         0 => {
             w.data_len = n;
         }
@@ -95,94 +117,142 @@ fn altered(line: &[u8], mut w: FdtWriter) -> FdtWriter {
     w
 }
 
-// The calls that take a property's name. Of numbers there are three or none.
-fn property(
-    line: &[u8],
-    name: &[u8],
-    val: &[u8],
-    w: FdtWriter,
-    data: &mut [u8],
-    strings: &mut [u8],
-) -> Written {
+// Of the numbers of `cells NAME ..` and `doubles NAME ..` there are three or none.
+fn bare(line: &[u8]) -> bool {
+    field(line, 2).len() == 0
+}
+
+fn words(line: &[u8]) -> [u32; 3] {
+    [word(line, 2), word(line, 3), word(line, 4)]
+}
+
+fn some_words(ws: &[u32], none: bool) -> &[u32] {
+    if none {
+        return &ws[..0];
+    }
+    ws
+}
+
+fn longs(line: &[u8]) -> [u64; 3] {
+    [number(line, 2), number(line, 3), number(line, 4)]
+}
+
+fn some_longs(ls: &[u64], none: bool) -> &[u64] {
+    if none {
+        return &ls[..0];
+    }
+    ls
+}
+
+// The calls that take a property's name.
+fn property(line: &[u8], w: FdtWriter, data: &mut [u8], strings: &mut [u8]) -> Written {
+    let name = field(line, 1);
+    let val = field(line, 2);
+    let ws = words(line);
+    let ls = longs(line);
+    let none = bare(line);
     match octets::byte(line, 0) {
-        b'p' => w.property(data, strings, name, val),
-        b'z' => w.property_null(data, strings, name),
-        b't' => w.property_string(data, strings, name, val),
-        b'l' => w.property_string_list(data, strings, name, val),
-        b'w' => w.property_u32(data, strings, name, word(field2(line))),
-        b'q' => w.property_u64(data, strings, name, number(field2(line))),
-        b'c' => cells(line, name, w, data, strings),
-        _ => doubles(line, name, w, data, strings),
+        b'p' => {
+            return w.property(data, strings, name, val);
+        }
+        b'z' => {
+            return w.property_null(data, strings, name);
+        }
+        b't' => {
+            return w.property_string(data, strings, name, val);
+        }
+        b'l' => {
+            return w.property_string_list(data, strings, name, val);
+        }
+        b'w' => {
+            return w.property_u32(data, strings, name, word(line, 2));
+        }
+        b'q' => {
+            return w.property_u64(data, strings, name, number(line, 2));
+        }
+        b'c' => {
+            return w.property_array_u32(data, strings, name, some_words(&ws, none));
+        }
+        _ => {
+            return w.property_array_u64(data, strings, name, some_longs(&ls, none));
+        }
     }
 }
 
-fn cells(line: &[u8], name: &[u8], w: FdtWriter, data: &mut [u8], strings: &mut [u8]) -> Written {
-    if field2(line).len() == 0 {
-        return w.property_array_u32(data, strings, name, &[]);
-    }
-    let a = word(field2(line));
-    let b = word(field3(line));
-    let c = word(field4(line));
-    w.property_array_u32(data, strings, name, &[a, b, c])
-}
-
-fn doubles(line: &[u8], name: &[u8], w: FdtWriter, data: &mut [u8], strings: &mut [u8]) -> Written {
-    if field2(line).len() == 0 {
-        return w.property_array_u64(data, strings, name, &[]);
-    }
-    let a = number(field2(line));
-    let b = number(field3(line));
-    let c = number(field4(line));
-    w.property_array_u64(data, strings, name, &[a, b, c])
-}
-
-// The calls, with their first two fields as bytes.
-fn answer(
-    line: &[u8],
-    name: &[u8],
-    val: &[u8],
-    w: FdtWriter,
-    r: Reservation,
-    data: &mut [u8],
-    strings: &mut [u8],
-    phandles: &mut [u32],
-) -> Written {
-    match octets::byte(line, 0) {
-        b'n' => FdtWriter::new(data),
-        b's' => start(line, r, data),
-        b'r' => start(line, r, data),
-        b'b' => w.begin_node(data, name),
-        b'e' => w.end_node(data, number(field1(line)) as usize),
-        b'h' => w.property_phandle(data, strings, phandles, word(field1(line))),
-        b'f' => w.finish(data, strings),
-        b'i' => Written::Done(w.set_boot_cpuid_phys(word(field1(line)))),
-        b'a' => Written::Done(altered(line, w)),
-        _ => property(line, name, val, w, data, strings),
-    }
-}
-
+// The other calls.
 fn call(
     line: &[u8],
     w: FdtWriter,
-    r: Reservation,
     data: &mut [u8],
     strings: &mut [u8],
     phandles: &mut [u32],
 ) -> Written {
-    let mut name = [0u8; 64];
-    let mut val = [0u8; 64];
-    let n = bytes(field1(line), &mut name);
-    let v = bytes(field2(line), &mut val);
-    answer(
+    match octets::byte(line, 0) {
+        b'n' => {
+            return FdtWriter::new(data);
+        }
+        b's' => {
+            return start(line, data);
+        }
+        b'r' => {
+            return start(line, data);
+        }
+        b'b' => {
+            return w.begin_node(data, field(line, 1));
+        }
+        b'e' => {
+            return w.end_node(data, count(line, 1));
+        }
+        b'h' => {
+            return w.property_phandle(data, strings, phandles, word(line, 1));
+        }
+        b'f' => {
+            return w.finish(data, strings);
+        }
+        b'i' => {
+            return Written::Done(w.set_boot_cpuid_phys(word(line, 1)));
+        }
+        b'a' => {
+            return Written::Done(altered(w, number(line, 1), count(line, 2)));
+        }
+        _ => {
+            return property(line, w, data, strings);
+        }
+    }
+}
+
+// Makes a call and tells of it.
+fn called(
+    line: &[u8],
+    w: FdtWriter,
+    data: &mut [u8],
+    strings: &mut [u8],
+    phandles: &mut [u32],
+) -> FdtWriter {
+    let answer = call(line, w, data, strings, phandles);
+    tell::told(answer, data, strings, phandles)
+}
+
+// A call of the writer on what is lent.
+fn on(
+    line: &[u8],
+    s: Session,
+    data: &mut [u8],
+    strings: &mut [u8],
+    phandles: &mut [u32],
+) -> Session {
+    let w = s.w;
+    let d = within(s.data, data);
+    let t = within(s.strings, strings);
+    let p = within_words(s.phandles, phandles);
+    let after = called(
         line,
-        text(&name, n),
-        text(&val, v),
         w,
-        r,
-        data,
-        strings,
-        phandles,
-    )
+        &mut data[..d],
+        &mut strings[..t],
+        &mut phandles[..p],
+    );
+    s.with(after)
 }
 
 fn fill(data: &mut [u8]) {
@@ -214,95 +284,86 @@ fn nothing() -> FdtWriter {
     }
 }
 
-// The calls of one case, on buffers that begin filled.
-fn calls(script: &[u8], r: Reservation, data: &mut [u8], strings: &mut [u8], phandles: &mut [u32]) {
-    fill(data);
-    fill(strings);
-    fill_words(phandles);
-    let mut w = nothing();
+// What the first line of a case lends; an empty line lends nothing, and the next is the first of a case.
+fn lent(line: &[u8]) -> Session {
+    Session {
+        w: nothing(),
+        data: count(line, 1),
+        strings: count(line, 2),
+        phandles: count(line, 3),
+        first: line.len() == 0,
+    }
+}
+
+fn before() -> Session {
+    lent(b"")
+}
+
+fn valid(address: u64, size: u64) -> bool {
+    match Reservation::new(address, size) {
+        Made::Reserved(_) => true,
+        Made::InvalidMemoryReservation => false,
+    }
+}
+
+// Tells of the first line of a case.
+fn head(line: &[u8]) {
+    if octets::begins(b"made", line) {
+        tell::made(valid(number(line, 1), number(line, 2)));
+    }
+    tell::end();
+}
+
+// What a line of the script does.
+fn turn(
+    line: &[u8],
+    s: Session,
+    data: &mut [u8; DATA_LENT],
+    strings: &mut [u8; STRINGS_LENT],
+    phandles: &mut [u32; PHANDLES_LENT],
+) -> Session {
+    tell::line(line);
+    if line.len() == 0 {
+        return lent(line);
+    }
+    if s.first {
+        head(line);
+        fill(data);
+        fill(strings);
+        fill_words(phandles);
+        return lent(line);
+    }
+    on(line, s, data, strings, phandles)
+}
+
+fn run(
+    script: &[u8],
+    data: &mut [u8; DATA_LENT],
+    strings: &mut [u8; STRINGS_LENT],
+    phandles: &mut [u32; PHANDLES_LENT],
+) {
+    let mut s = before();
     let mut at = 0;
     while at < script.len() {
         let n = span(&script[at..], b'\n');
         let end = at + n;
         let next = end + 1;
-        let line = &script[at..end];
-        w = told(
-            line,
-            call(line, w, r, data, strings, phandles),
-            data,
-            strings,
-            phandles,
-        );
+        s = turn(&script[at..end], s, data, strings, phandles);
         at = next;
     }
-}
-
-// A case: `CASE DATA STRINGS PHANDLES`, how much of each is lent, and then its calls; or `made ADDRESS SIZE`.
-fn case(text: &[u8], r: Reservation, data: &mut [u8], strings: &mut [u8], phandles: &mut [u32]) {
-    let n = span(text, b'\n');
-    let head = octets::part(text, 0, n);
-    if octets::begins(b"made", head) {
-        tell::made(head, valid(number(field1(head)), number(field2(head))));
-        return;
-    }
-    io::write_all(libc::STDOUT_FILENO, head);
-    io::write_all(libc::STDOUT_FILENO, b"\n");
-    let d = count(field1(head), data.len());
-    let s = count(field2(head), strings.len());
-    let p = count(field3(head), phandles.len());
-    if n < text.len() {
-        calls(
-            octets::part(text, n + 1, text.len()),
-            r,
-            &mut data[..d],
-            &mut strings[..s],
-            &mut phandles[..p],
-        );
-    }
-}
-
-// The cases of a script, one blank line between two.
-fn cases(script: &[u8], r: Reservation, data: &mut [u8], strings: &mut [u8], phandles: &mut [u32]) {
-    let mut at = 0;
-    while at < script.len() {
-        let n = blank(&script[at..]);
-        let end = at + n;
-        let next = end + 1;
-        case(&script[at..end], r, data, strings, phandles);
-        at = next;
-    }
-}
-
-// How many bytes stand before a line that is empty; all where there is none.
-fn blank(s: &[u8]) -> usize
-    ensures { λ r. ⌜ r ≤ length (now (s .entry)) ⌝ }
-{
-    let mut at = 0;
-    while at < s.len() {
-        let n = span(&s[at..], b'\n');
-        if n == 0 {
-            return at;
-        }
-        if s.len() - at <= n {
-            return s.len();
-        }
-        at += n + 1;
-    }
-    s.len()
-}
-
-fn run(script: &[u8], r: Reservation, data: &mut [u8; DATA_LENT]) {
-    let mut strings = io::buffer();
-    let mut phandles = [0u32; 8];
-    cases(script, r, data, &mut strings, &mut phandles);
 }
 
 fn main() {
     let mut script = io::large_buffer();
     let n = io::read_full(STDIN_FILENO, &mut script);
-    let Made::Reserved(r) = Reservation::new(0, 1) else {
-        return;
-    };
+    script::nuls(&mut script);
     let mut data = [0u8; DATA_LENT];
-    run(&script[..n], r, &mut data);
+    let mut strings = [0u8; STRINGS_LENT];
+    let mut phandles = [0u32; PHANDLES_LENT];
+    run(
+        octets::part(&script, 0, n),
+        &mut data,
+        &mut strings,
+        &mut phandles,
+    );
 }

@@ -2,6 +2,19 @@
 ghost use Prim.Native.Nat.{_≤_, _<_};
 ghost use lib.ListN.{length};
 
+fn plain(x: u8) -> u8 {
+    if x == b'~' { 0 } else { x }
+}
+
+// Puts the NULs in their places.
+pub(crate) fn nuls(s: &mut [u8]) {
+    let mut i = 0;
+    while i < s.len() {
+        s[i] = plain(s[i]);
+        i += 1;
+    }
+}
+
 // How many bytes stand before the first `stop`; all where there is none.
 pub(crate) fn span(s: &[u8], stop: u8) -> usize
     ensures { λ r. ⌜ r ≤ length (now (s .entry)) ⌝ }
@@ -16,46 +29,32 @@ pub(crate) fn span(s: &[u8], stop: u8) -> usize
     i
 }
 
-// The first field of a line, and the line behind it.
-fn first(line: &[u8]) -> &[u8] {
-    octets::part(line, 0, span(line, b' '))
-}
-
-fn behind(line: &[u8]) -> &[u8] {
-    let n = span(line, b' ');
-    if n < line.len() {
-        return octets::part(line, n + 1, line.len());
+// How many fields are left to skip behind a byte.
+fn fewer(left: usize, x: u8) -> usize {
+    if x == b' ' && left > 0 {
+        left - 1
+    } else {
+        left
     }
-    octets::part(line, 0, 0)
 }
 
-// The fields of a line, counted from 0.
-pub(crate) fn field1(line: &[u8]) -> &[u8] {
-    first(behind(line))
+// Where a field of a line begins, counted from 0; the line's end where it has none such.
+fn begin(line: &[u8], field: usize) -> usize {
+    let mut left = field;
+    let mut i = 0;
+    while i < line.len() {
+        if left == 0 {
+            return i;
+        }
+        left = fewer(left, line[i]);
+        i += 1;
+    }
+    i
 }
 
-pub(crate) fn field2(line: &[u8]) -> &[u8] {
-    first(behind(behind(line)))
-}
-
-pub(crate) fn field3(line: &[u8]) -> &[u8] {
-    first(behind(behind(behind(line))))
-}
-
-pub(crate) fn field4(line: &[u8]) -> &[u8] {
-    field2(behind(behind(line)))
-}
-
-pub(crate) fn field5(line: &[u8]) -> &[u8] {
-    field3(behind(behind(line)))
-}
-
-pub(crate) fn field6(line: &[u8]) -> &[u8] {
-    field3(behind(behind(behind(line))))
-}
-
-pub(crate) fn field7(line: &[u8]) -> &[u8] {
-    field4(behind(behind(behind(line))))
+pub(crate) fn field(line: &[u8], k: usize) -> &[u8] {
+    let rest = octets::part(line, begin(line, k), line.len());
+    octets::part(rest, 0, span(rest, b' '))
 }
 
 fn digit(x: u8) -> u64
@@ -67,7 +66,7 @@ fn digit(x: u8) -> u64
     ((x % 16 + 9) % 16) as u64
 }
 
-pub(crate) fn number(s: &[u8]) -> u64 {
+fn spelt(s: &[u8]) -> u64 {
     let mut v: u64 = 0;
     let mut i = 0;
     while i < s.len() {
@@ -77,41 +76,15 @@ pub(crate) fn number(s: &[u8]) -> u64 {
     v
 }
 
-pub(crate) fn word(s: &[u8]) -> u32 {
-    (number(s) % 4294967296) as u32
+// The number in a field; 0 where there is none.
+pub(crate) fn number(line: &[u8], k: usize) -> u64 {
+    spelt(field(line, k))
 }
 
-fn plain(x: u8) -> u8 {
-    if x == b'~' { 0 } else { x }
+pub(crate) fn count(line: &[u8], k: usize) -> usize {
+    number(line, k) as usize
 }
 
-fn least(a: usize, b: usize) -> usize
-    ensures { λ r. ⌜ (r ≤ a) × (r ≤ b) ⌝ }
-{
-    if a < b { a } else { b }
-}
-
-// A count, at most as many as there are.
-pub(crate) fn count(s: &[u8], most: usize) -> usize
-    ensures { λ r. ⌜ r ≤ most ⌝ }
-{
-    least(number(s) as usize, most)
-}
-
-// The bytes of a field, in `out`; answers how many.
-pub(crate) fn bytes(s: &[u8], out: &mut [u8; 64]) -> usize
-    ensures { λ r. ⌜ r ≤ 64 ⌝ }
-{
-    let n = least(s.len(), 64);
-    let mut i = 0;
-    while i < n {
-        out[i] = plain(s[i]);
-        i += 1;
-    }
-    n
-}
-
-// Those bytes.
-pub(crate) fn text(out: &[u8; 64], n: usize) -> &[u8] {
-    octets::part(out, 0, n)
+pub(crate) fn word(line: &[u8], k: usize) -> u32 {
+    (number(line, k) % 4294967296) as u32
 }

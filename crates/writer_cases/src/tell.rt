@@ -73,38 +73,54 @@ fn state(w: FdtWriter) {
     column(w.boot_cpuid_phys as u64);
 }
 
-// Writes the line of a call: the call, its refusal or 0, its place, the state that it hands back, and the digests of what is
-// lent. Hands back the state.
-pub(crate) fn told(
-    call: &[u8],
-    answer: Written,
-    data: &[u8],
-    strings: &[u8],
-    phandles: &[u32],
-) -> FdtWriter {
-    let mut refusal: u64 = 0;
-    let w = match answer {
+// A NUL as the script has it.
+fn shown(x: u8) -> u8 {
+    if x == 0 { b'~' } else { x }
+}
+
+// Writes a line of the script, without its end.
+pub(crate) fn line(s: &[u8]) {
+    let mut i = 0;
+    while i < s.len() {
+        io::write_all(STDOUT_FILENO, &[shown(s[i])]);
+        i += 1;
+    }
+}
+
+pub(crate) fn end() {
+    io::write_all(STDOUT_FILENO, b"\n");
+}
+
+fn refusal(answer: Written) -> u64 {
+    match answer {
+        Written::Done(_) => 0,
+        Written::Refused(_, e) => number(e),
+    }
+}
+
+fn after(answer: Written) -> FdtWriter {
+    match answer {
         Written::Done(w) => w,
-        Written::Refused(w, e) => {
-            refusal = number(e);
-            w
-        }
-    };
-    io::write_all(STDOUT_FILENO, call);
-    column(refusal);
+        Written::Refused(w, _) => w,
+    }
+}
+
+// Ends the line of a call with its refusal or 0, its place, the state that it hands back, and the digests of what is lent.
+// Hands back the state.
+pub(crate) fn told(answer: Written, data: &[u8], strings: &[u8], phandles: &[u32]) -> FdtWriter {
+    let w = after(answer);
+    column(refusal(answer));
     column(0);
     state(w);
     column(digest(data));
     column(digest(strings));
     column(digest_words(phandles));
-    io::write_all(STDOUT_FILENO, b"\n");
+    end();
     w
 }
 
 // What the maker of reservations answers: 27 or 0.
-pub(crate) fn made(call: &[u8], valid: bool) {
-    io::write_all(STDOUT_FILENO, call);
+pub(crate) fn made(valid: bool) {
     column(if valid { 0 } else { 27 });
     column(0);
-    io::write_all(STDOUT_FILENO, b"\n");
 }

@@ -4,10 +4,10 @@ use Rattle.again_cases.proofs.main.Statement.{statement}
 use Rattle.again_cases.proofs.main.Tie as tie
 
 abbrev Inv-loop : tie.InvT-loop
-Inv-loop blob₀ data₀ strings₀ work₀ turns₀ blob «data» strings work turns = Unit {0}
+Inv-loop blob₀ data₀ turns₀ blob «data» turns = Unit {0}
 
 abbrev μ-loop : tie.MeasureT-loop
-μ-loop blob₀ data₀ strings₀ work₀ turns₀ blob «data» strings work turns = turns
+μ-loop blob₀ data₀ turns₀ blob «data» turns = turns
 
 loop-holds : tie.Need-loop-holds Inv-loop μ-loop
 loop-holds c = search needs

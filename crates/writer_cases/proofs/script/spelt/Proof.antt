@@ -1,11 +1,11 @@
--- `number` is safe and ends.
+-- `spelt` is safe and ends.
 use mathlib.Core.Path.{_≡_, refl, sym, ap, _∙_}
 use Prim.Native.Nat.{_+_, _-_, _*_, _≤_}
 use native.Mathlib.Omega.{arith}
 use lib.ListN.{length}
 use borrow.Author.Needs.{needs}
-use Rattle.writer_cases.proofs.script.number.Statement.{statement}
-use Rattle.writer_cases.proofs.script.number.Tie as tie
+use Rattle.writer_cases.proofs.script.spelt.Statement.{statement}
+use Rattle.writer_cases.proofs.script.spelt.Tie as tie
 
 abbrev Inv-loop : tie.InvT-loop
 Inv-loop s v₀ i₀ v i = i ≤ length s
@@ -40,5 +40,5 @@ loop-again c = search needs
 returns : tie.Need-returns Inv-loop μ-loop
 returns c = search needs
 
-pub number-spec : {M : Type 1} → statement M
-number-spec = tie.close (tie.spec Inv-loop μ-loop loop-holds mul-v shared-slice-read-digit digit-requires add-v add-i loop-less loop-again returns)
+pub spelt-spec : {M : Type 1} → statement M
+spelt-spec = tie.close (tie.spec Inv-loop μ-loop loop-holds mul-v shared-slice-read-digit digit-requires add-v add-i loop-less loop-again returns)
