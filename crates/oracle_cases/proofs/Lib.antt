@@ -1,1 +1,2 @@
+-- What the proofs of this program share.
 pub mod Counted

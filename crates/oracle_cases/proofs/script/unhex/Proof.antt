@@ -1,7 +1,5 @@
 -- `unhex` is safe and ends.
-use mathlib.Core.Path.{_≡_}
 use Prim.Native.Nat.{_-_, _≤_}
-use lib.ListN.{length}
 use borrow.Author.Needs.{needs}
 use Rattle.oracle_cases.proofs.script.unhex.Statement.{statement}
 use Rattle.oracle_cases.proofs.script.unhex.Tie as tie
