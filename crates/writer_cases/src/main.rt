@@ -133,6 +133,11 @@ fn some_words(ws: &[u32], none: bool) -> &[u32] {
     ws
 }
 
+fn cells(line: &[u8], w: FdtWriter, data: &mut [u8], strings: &mut [u8]) -> Written {
+    let ws = words(line);
+    w.property_array_u32(data, strings, field(line, 1), some_words(&ws, bare(line)))
+}
+
 fn longs(line: &[u8]) -> [u64; 3] {
     [number(line, 2), number(line, 3), number(line, 4)]
 }
@@ -144,13 +149,15 @@ fn some_longs(ls: &[u64], none: bool) -> &[u64] {
     ls
 }
 
+fn doubles(line: &[u8], w: FdtWriter, data: &mut [u8], strings: &mut [u8]) -> Written {
+    let ls = longs(line);
+    w.property_array_u64(data, strings, field(line, 1), some_longs(&ls, bare(line)))
+}
+
 // The calls that take a property's name.
 fn property(line: &[u8], w: FdtWriter, data: &mut [u8], strings: &mut [u8]) -> Written {
     let name = field(line, 1);
     let val = field(line, 2);
-    let ws = words(line);
-    let ls = longs(line);
-    let none = bare(line);
     match octets::byte(line, 0) {
         b'p' => {
             return w.property(data, strings, name, val);
@@ -171,10 +178,10 @@ fn property(line: &[u8], w: FdtWriter, data: &mut [u8], strings: &mut [u8]) -> W
             return w.property_u64(data, strings, name, number(line, 2));
         }
         b'c' => {
-            return w.property_array_u32(data, strings, name, some_words(&ws, none));
+            return cells(line, w, data, strings);
         }
         _ => {
-            return w.property_array_u64(data, strings, name, some_longs(&ls, none));
+            return doubles(line, w, data, strings);
         }
     }
 }
