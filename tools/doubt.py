@@ -1,9 +1,10 @@
 #!/usr/bin/env python3
 """doubt.py [--in FOLDER] [CRATE | CRATE/NAME ...]: tries the wrong programs that crates/*/doubts hold, each in the form of a must-fail
 edit, and says of each whether the prover refuses it. The gate tries the edits under must-fail; doubts has the others, so that the gate
-stays short. Each crate is checked over what was checked before (rt dev), in a copy of the repository: a temporary one, or FOLDER, which
-stays, so that the next run is short; its folder said has what the prover said of each. Exit status 1 where one is not refused, or a
-crate is refused as it stands. Run from the root of the repository, after rt check.
+stays short. Each crate is checked over what was checked before (rt dev), several edits at once where no changed function calls another,
+in a copy of the repository: a temporary one, or FOLDER, which stays, so that the next run is short, and whose folder `said` has what the
+prover said. Exit status 1 where one is not refused, or a crate is refused as it stands. Run from the root of the repository, after rt
+check.
 doubt.py --few: the public functions of the libraries whose text fewer than two wrong programs (of must-fail or doubts) change."""
 import glob
 import os
