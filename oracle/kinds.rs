@@ -56,7 +56,7 @@ fn store(crate_name: &str, stdin: &[u8], stdout: &str) {
 
 // The stored sample: some hundreds of questions, with what the Rust answers.
 fn sample(words: &[String]) -> i32 {
-    let mut cases = Cases::new(value(words, "--cases", "target/bin/oracle_cases"));
+    let mut cases = Cases::new(value(words, "--cases", "target/here/oracle_cases"));
     cases.kept = Some(Vec::new());
     let (mut found, mut m, mut d) = (Vec::new(), Model::new(), Draw::new(1));
     names::sample(&mut cases, &mut found, &mut d);
@@ -68,7 +68,7 @@ fn sample(words: &[String]) -> i32 {
     store("oracle_cases", stdin.as_bytes(), &stdout);
     println!("{} answers, to calls {}", stdout.lines().count(), came(&m.came));
     cases.end();
-    let library = value(words, "--derive", "target/bin/beside_cases");
+    let library = value(words, "--derive", "target/here/beside_cases");
     if Path::new(library).exists() {
         let mut l = Derivations::new(library);
         l.kept = Some((Vec::new(), String::new()));
@@ -175,7 +175,7 @@ impl Run<'_> {
     }
 
     fn reader(&mut self) {
-        let mut r = Readers::new(value(self.words, "--reader", "target/bin/reader_cases"));
+        let mut r = Readers::new(value(self.words, "--reader", "target/here/reader_cases"));
         let (all, drawn) = (self.share(0.2), self.share(0.3));
         let found = &mut self.found;
         readers::damaged(&mut r, found);
@@ -214,7 +214,7 @@ impl Run<'_> {
 
     fn derivations(&mut self, c: &mut guests::Counts) {
         let until = self.share(0.15);
-        let library = value(self.words, "--derive", "target/bin/beside_cases");
+        let library = value(self.words, "--derive", "target/here/beside_cases");
         if !Path::new(library).exists() {
             println!("beside_cases is not built: no derivation is asked of it");
             let none = Program { path: None, room: self.program.room.clone() };
@@ -247,7 +247,7 @@ fn compare(words: &[String]) -> i32 {
     }
     println!("seed {seed}, {seconds} seconds");
     let room = std::env::temp_dir().join(format!("oracle-{}", std::process::id()));
-    let program = guests::program(Path::new(value(words, "--guestdt", "target/bin/guestdt")), &room);
+    let program = guests::program(Path::new(value(words, "--guestdt", "target/here/guestdt")), &room);
     if program.path.is_none() {
         println!("guestdt is not built: no guest is asked of it");
     }
@@ -255,7 +255,7 @@ fn compare(words: &[String]) -> i32 {
         words,
         began: Instant::now(),
         seconds,
-        cases: Cases::new(value(words, "--cases", "target/bin/oracle_cases")),
+        cases: Cases::new(value(words, "--cases", "target/here/oracle_cases")),
         told: 0,
         model: Model::new(),
         program,
