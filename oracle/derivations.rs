@@ -51,17 +51,21 @@ impl Case {
         }
     }
 
+    // A label, a rest behind the zeros, spans and runs it has none.
     fn spelt(&self) -> Vec<u8> {
         let kept = self.host.iter().rposition(|&b| b != 0).map_or(0, |i| i + 1);
         let numbers = [
+            0,
             kept,
             self.host.len() - kept,
+            0,
             self.configured.len(),
             self.excluded.len(),
             self.ids.len(),
             self.words,
             self.list,
             self.guest,
+            0,
             0,
         ];
         let mut out: Vec<u8> = numbers.iter().flat_map(|&n| (n as u32).to_be_bytes()).collect();

@@ -63,7 +63,7 @@ pub struct Model {
 }
 
 fn digest(numbers: impl Iterator<Item = u64>) -> u64 {
-    numbers.fold(2166136261, |h, x| (h * 16777619 + x) % (1 << 32))
+    numbers.fold(0, |h, x| (h * 16777619 + x + 1) % (1 << 32))
 }
 
 // A string that the Rust can be given in the place of bytes that are no UTF-8: no name either, and with a NUL where they have one.

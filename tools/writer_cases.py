@@ -94,8 +94,8 @@ class M:
         h=b"".join(be(x,4) for x in(0xd00dfeed,total,w.off_dt_struct,at+4,40,17,16,w.boot_cpuid_phys,w.strings_len,at+4-w.off_dt_struct))
         m.data[:40]=h; w.data_len=total; w.finished=True
 def dig(xs):
-    h=2166136261
-    for x in xs: h=(h*16777619+x)%2**32
+    h=0
+    for x in xs: h=(h*16777619+x+1)%2**32
     return h
 BIG=2**64
 A31=b"abcdefghijklmnopqrstuvwxyz01234"

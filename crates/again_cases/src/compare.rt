@@ -1,17 +1,10 @@
 // What two blobs that the reader accepted are compared by: the digest of their events, their reservations, their boot CPUs.
 // Names and values count, and places do not.
+use cases::digest_behind;
+use cases::mixed;
+use cases::up;
 use rules::Kind;
 use rules::Token;
-
-// A place n further on. No place of a blob comes near the bound, which keeps the sum from wrapping.
-pub fn up(at: usize, n: usize) -> usize {
-    if at < 4294967296 {
-        if n < 4294967296 {
-            return at + n;
-        }
-    }
-    at
-}
 
 pub fn down(n: usize) -> usize {
     if n > 0 { n - 1 } else { 0 }
@@ -37,24 +30,9 @@ pub fn closed_at(names: &[u8], at: usize) -> &[u8] {
 
 // ---- the events
 
-fn mixed(h: u32, v: u64) -> u32 {
-    let wide = (h as u64) * 16777619 + v % 65536 + 1;
-    (wide % 4294967296) as u32
-}
-
-fn byte_at(s: &[u8], i: usize) -> u64 {
-    octets::byte(s, i) as u64
-}
-
-// The digest of bytes behind those digested, closed by their length.
-fn text(digest: u32, s: &[u8]) -> u32 {
-    let mut h = digest;
-    let mut i = 0;
-    while i < s.len() {
-        h = mixed(h, byte_at(s, i));
-        i += 1;
-    }
-    mixed(h, s.len() as u64)
+// The digest of bytes behind what came to h, closed by their length.
+fn text(h: u32, s: &[u8]) -> u32 {
+    mixed(digest_behind(h, s), (s.len() % 65536) as u32)
 }
 
 fn event(digest: u32, structure: &[u8], names: &[u8], kind: Kind, at: usize) -> u32 {

@@ -6,11 +6,12 @@ mod compare;
 mod rewrite;
 mod told;
 
+use cases::up;
+use cases::within;
 use libc::STDIN_FILENO;
 use libc::STDOUT_FILENO;
 use reader::Answer;
 use writer::Written;
-ghost use Rattle.io.specs.Counts.{Counts};
 
 // Room for the longest blob, and for the reader.
 const BLOB: usize = 1048640;
@@ -24,17 +25,6 @@ const HEAD: usize = 20;
 
 // A second blob up to this length is printed.
 const SHOWN: usize = 2048;
-
-// The number, or the buffer's length where that is less.
-fn within(n: usize, buffer: &[u8]) -> usize
-    ensures { λ r. ⌜ Counts r (now (buffer .entry)) ⌝ }
-{
-    let most = buffer.len();
-    if n < most {
-        return n;
-    }
-    most
-}
 
 // The number at a place of a case's head.
 fn number(s: &[u8; HEAD], at: usize) -> usize {
@@ -111,11 +101,11 @@ fn next(blob: &mut [u8; BLOB], data: &mut [u8; BLOB]) -> bool {
     let front = take(blob, number(&head, 4));
     let zeros = number(&head, 8);
     octets::put_zeros(blob, front, zeros);
-    let place = compare::up(front, zeros);
+    let place = up(front, zeros);
     let rest = take_at(blob, place, number(&head, 12));
     run(
         octets::part(&label, 0, text),
-        octets::part(blob, 0, compare::up(place, rest)),
+        octets::part(blob, 0, up(place, rest)),
         number(&head, 16),
         data,
     );

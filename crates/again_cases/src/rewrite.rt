@@ -1,6 +1,7 @@
 // Writes a blob that the reader accepted again, by the writer's calls: a start with its reservations, the boot CPU, a call for
 // each token of the structure, and finish.
 use crate::compare;
+use cases::up;
 use reservation::Made;
 use reservation::Reservation;
 use rules::Kind;
@@ -28,13 +29,13 @@ impl Kept {
         if i < RESERVATION_CEILING {
             self.rs[i] = r;
         }
-        self.count = compare::up(i, 1);
+        self.count = up(i, 1);
         self
     }
 
     // The reservations with one more that cannot be made.
     fn spoilt(mut self) -> Kept {
-        self.count = compare::up(self.count, 1);
+        self.count = up(self.count, 1);
         self.bad = true;
         self
     }
@@ -65,11 +66,8 @@ fn reserved(blob: &[u8], filler: Reservation) -> Kept {
         if compare::closes(blob, at) {
             return k;
         }
-        k = k.noted(
-            octets::long(blob, at),
-            octets::long(blob, compare::up(at, 8)),
-        );
-        at = compare::up(at, 16);
+        k = k.noted(octets::long(blob, at), octets::long(blob, up(at, 8)));
+        at = up(at, 16);
         left -= 1;
     }
     k
@@ -125,7 +123,7 @@ fn opened(
 // How many nodes are open behind a token.
 fn level_behind(kind: Kind, level: usize) -> usize {
     match kind {
-        Kind::Begin { len: _ } => compare::up(level, 1),
+        Kind::Begin { len: _ } => up(level, 1),
         Kind::EndNode => compare::down(level),
         Kind::Prop {
             len: _,
@@ -152,7 +150,7 @@ fn call(
         Kind::Begin { len } => opened(
             w,
             data,
-            octets::part(structure, compare::up(at, 4), len),
+            octets::part(structure, up(at, 4), len),
             open,
             level,
         ),

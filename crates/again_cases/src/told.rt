@@ -1,73 +1,22 @@
-// What is printed of a case, and the numbers of refusals.
+// What is printed of a case.
 use libc::STDOUT_FILENO;
 use reader::Refusal;
 use writer::Error;
 
-// A refusal's number and place.
-struct Numbered {
-    number: u64,
-    place: u64,
-}
-
-fn placed(number: u64, at: usize) -> Numbered {
-    Numbered {
-        number,
-        place: at as u64,
-    }
-}
-
-fn of_refusal(refusal: Refusal) -> Numbered {
-    match refusal {
-        Refusal::NoSpace => placed(40, 0),
-        Refusal::Short => placed(1, 0),
-        Refusal::Magic => placed(2, 0),
-        Refusal::Total => placed(3, 0),
-        Refusal::Version => placed(4, 0),
-        Refusal::Layout => placed(5, 0),
-        Refusal::Shape { at } => placed(6, at),
-        Refusal::Name { at } => placed(7, at),
-        Refusal::Deep { at } => placed(8, at),
-        Refusal::Many { at } => placed(9, at),
-        Refusal::Doubled { at } => placed(10, at),
-        Refusal::Cells { at } => placed(11, at),
-        Refusal::Shared { at } => placed(12, at),
-    }
-}
-
-fn number(error: Error) -> u64 {
-    match error {
-        Error::PropertyBeforeBeginNode => 20,
-        Error::PropertyAfterEndNode => 21,
-        Error::PropertyValueTooLarge => 22,
-        Error::TotalSizeTooLarge => 23,
-        Error::InvalidString => 24,
-        Error::OutOfOrderEndNode => 25,
-        Error::UnclosedNode => 26,
-        Error::InvalidMemoryReservation => 27,
-        Error::OverlappingMemoryReservations => 28,
-        Error::InvalidNodeName => 29,
-        Error::InvalidPropertyName => 30,
-        Error::NodeDepthTooLarge => 31,
-        Error::DuplicatePhandle => 32,
-        Error::NoRoom => 33,
-        Error::ImpossibleState => 34,
-    }
-}
-
 // What a reading refuses; it ends the line.
 pub fn refused(refusal: Refusal) {
-    let t = of_refusal(refusal);
+    let t = reader::told(refusal);
     io::write_all(STDOUT_FILENO, b": refused ");
     io::print_decimal(STDOUT_FILENO, t.number);
     io::write_all(STDOUT_FILENO, b" at ");
-    io::print_decimal(STDOUT_FILENO, t.place);
+    io::print_decimal(STDOUT_FILENO, t.place as u64);
     io::write_all(STDOUT_FILENO, b"\n");
 }
 
 // What the writing refuses; it ends the line.
 pub fn stopped(error: Error) {
     io::write_all(STDOUT_FILENO, b", refused ");
-    io::print_decimal(STDOUT_FILENO, number(error));
+    io::print_decimal(STDOUT_FILENO, judge::number(error));
     io::write_all(STDOUT_FILENO, b"\n");
 }
 

@@ -1,4 +1,6 @@
 // The line that is printed of a case.
+use cases::digest;
+use cases::digest_words;
 use derive::Answer;
 use libc::STDOUT_FILENO;
 
@@ -19,35 +21,6 @@ fn print_answer(answer: Answer) {
             column(b" at ", told::place(refusal) as u64);
         }
     }
-}
-
-fn mixed(h: u32, x: u32) -> u32 {
-    let wide = (h as u64) * 16777619 + (x as u64) + 1;
-    (wide % 4294967296) as u32
-}
-
-fn wide(x: u8) -> u32 {
-    x as u32
-}
-
-fn digest(s: &[u8]) -> u32 {
-    let mut h: u32 = 0;
-    let mut i = 0;
-    while i < s.len() {
-        h = mixed(h, wide(s[i]));
-        i += 1;
-    }
-    h
-}
-
-fn digest_words(s: &[u32]) -> u32 {
-    let mut h: u32 = 0;
-    let mut i = 0;
-    while i < s.len() {
-        h = mixed(h, s[i]);
-        i += 1;
-    }
-    h
 }
 
 fn print_digest(label: &[u8], h: u32) {

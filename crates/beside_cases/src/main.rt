@@ -2,16 +2,18 @@
 // space at return. oracle/ asks it while it runs the given Rust beside; the file `stdin` beside this source holds cases that it
 // once asked, and `stdout` what was expected of them.
 //
-// A case is nine numbers of four bytes, how many bytes the host has but for zeros at its end, how many zeros, how many bytes the
-// configured paths have, the excluded ones, how many ids there are, how many words, bytes of list and bytes of guest are lent,
-// and 0; then the host, the two lists, and the ids, eight bytes each.
-mod case;
+// A case is laid out as one of derive_cases, but has no label, no rest behind the zeros of its host, no spans and no runs.
 mod line;
+mod taken;
 
+use cases::case;
+use cases::within;
+use cases::within_longs;
+use cases::within_words;
 use derive::Answer;
 
 // Room for the longest host, the two lists and the ids, with the head.
-const CASE: usize = 36 + 3 * 70000 + 640;
+const CASE: usize = case::HEAD + 3 * 70000 + 8 * case::MOST_IDS;
 
 const WORDS: usize = 16400;
 
@@ -23,17 +25,6 @@ const GUEST: usize = 70000;
 const FILL: u8 = 0xa5;
 
 const FILL_WORD: u32 = 0xa5a5a5a5;
-
-// Makes each id the number that stands for it in the case, 0 past its end.
-fn put_ids(ids: &mut [u64], raw: &[u8]) {
-    let mut i = 0;
-    let mut at = 0;
-    while i < ids.len() {
-        ids[i] = octets::long(raw, at);
-        at = case::up(at, 8);
-        i += 1;
-    }
-}
 
 fn with_ids(
     case: &[u8],
@@ -50,8 +41,8 @@ fn with_ids(
 
 fn derived(case: &[u8], work: &mut [u32], list: &mut [u8], guest: &mut [u8]) -> Answer {
     let mut ids = [0u64; case::MOST_IDS];
-    put_ids(&mut ids, case::part(case, case::IDS));
-    let n = case::within_longs(case::number(case, case::IDS), &ids);
+    case::put_ids(&mut ids, case::part(case, case::IDS));
+    let n = within_longs(case::number(case, case::IDS), &ids);
     with_ids(case, &ids[..n], work, list, guest)
 }
 
@@ -63,9 +54,9 @@ fn tell(case: &[u8], work: &mut [u32], list: &mut [u8], guest: &mut [u8]) {
 
 // Lends as much of each as the case says.
 fn lend(case: &[u8], work: &mut [u32], list: &mut [u8], guest: &mut [u8]) {
-    let w = case::within_words(case::number(case, case::WORDS), work);
-    let l = case::within(case::number(case, case::LIST), list);
-    let g = case::within(case::number(case, case::GUEST), guest);
+    let w = within_words(case::number(case, case::WORDS), work);
+    let l = within(case::number(case, case::LIST), list);
+    let g = within(case::number(case, case::GUEST), guest);
     tell(case, &mut work[..w], &mut list[..l], &mut guest[..g]);
 }
 
@@ -76,7 +67,7 @@ fn run(case: &[u8], work: &mut [u32; WORDS], list: &mut [u8; LIST], guest: &mut 
 
 // One case; false where there is none left.
 fn next(case: &mut [u8; CASE]) -> bool {
-    if !case::take_case(case) {
+    if !taken::take_case(case) {
         return false;
     }
     let mut work = [FILL_WORD; WORDS];

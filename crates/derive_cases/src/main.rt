@@ -4,11 +4,15 @@
 // and the room for list and guest that are lent, the lengths of spans and runs) and then the label, front, rest, lists, ids, spans
 // and runs. Where there are runs, the derivation is run again on the host with the bytes changed that they say (leak.rt).
 // tools/derive_cases.py makes the cases and the lines that are expected.
-mod case;
 mod leak;
 mod outcome;
+mod taken;
 
-use case::up;
+use cases::case;
+use cases::digest;
+use cases::digest_words;
+use cases::up;
+use cases::within_words;
 use libc::STDOUT_FILENO;
 use outcome::TOLD;
 use outcome::print_told;
@@ -23,31 +27,6 @@ const WORDS: usize = 16400;
 
 // What every word of a work space is before the derivation gets it.
 const FILL: u32 = 0xa5a5a5a5;
-
-fn mixed(h: u32, word: u32) -> u32 {
-    let wide = (h as u64) * 16777619 + (word as u64) + 1;
-    (wide % 4294967296) as u32
-}
-
-fn digest_words(work: &[u32]) -> u32 {
-    let mut h: u32 = 0;
-    let mut i = 0;
-    while i < work.len() {
-        h = mixed(h, work[i]);
-        i += 1;
-    }
-    h
-}
-
-fn digest(s: &[u8]) -> u32 {
-    let mut h: u32 = 0;
-    let mut i = 0;
-    while i < s.len() {
-        h = mixed(h, octets::byte(s, i) as u32);
-        i += 1;
-    }
-    h
-}
 
 fn print_digest(text: &[u8], digest: u32) {
     io::write_all(STDOUT_FILENO, text);
@@ -71,7 +50,7 @@ fn tell(case: &[u8], work: &mut [u32], out: &[u8]) {
 
 // Derives on as many words as the case lends.
 fn lent(case: &[u8], work: &mut [u32], out: &mut [u8]) {
-    let w = case::within_words(case::number(case, case::WORDS), work);
+    let w = within_words(case::number(case, case::WORDS), work);
     let words = &mut work[..w];
     put_outcome(case, words, out);
     tell(case, words, outcome::outcome(case, out));
@@ -85,7 +64,7 @@ fn run(case: &[u8], work: &mut [u32; WORDS], out: &mut [u8; OUT]) {
 // One case; false where there is none left.
 fn next(case: &mut [u8; CASE], out: &mut [u8; OUT]) -> bool {
     let mut work = [FILL; WORDS];
-    if !case::take_case(case) {
+    if !taken::take_case(case) {
         return false;
     }
     run(case, &mut work, out);

@@ -1,7 +1,9 @@
 // What comes of a derivation, in one buffer, so that two outcomes can be compared and one printed: four numbers of 64 bits, and
 // behind them the list and the guest, whole as lent.
-use crate::case;
-use crate::case::up;
+use cases::case;
+use cases::up;
+use cases::within;
+use cases::within_longs;
 use derive::Answer;
 use libc::STDOUT_FILENO;
 
@@ -18,17 +20,6 @@ const FILL: u8 = 0xa5;
 
 // ---- what is derived
 
-// Makes each id the number that stands for it in the script, 0 past its end.
-fn put_ids(ids: &mut [u64], raw: &[u8]) {
-    let mut i = 0;
-    let mut at = 0;
-    while i < ids.len() {
-        ids[i] = octets::long(raw, at);
-        at = up(at, 8);
-        i += 1;
-    }
-}
-
 fn with_ids(
     case: &[u8],
     ids: &[u64],
@@ -44,8 +35,8 @@ fn with_ids(
 
 fn derived(case: &[u8], work: &mut [u32], list: &mut [u8], guest: &mut [u8]) -> Answer {
     let mut ids = [0u64; case::MOST_IDS];
-    put_ids(&mut ids, case::part(case, case::IDS));
-    let n = case::within_longs(case::number(case, case::IDS), &ids);
+    case::put_ids(&mut ids, case::part(case, case::IDS));
+    let n = within_longs(case::number(case, case::IDS), &ids);
     with_ids(case, &ids[..n], work, list, guest)
 }
 
@@ -65,8 +56,8 @@ fn put_answer(out: &mut [u8], answer: Answer) {
 
 // Lends as much of the two buffers as the case says.
 fn lent(case: &[u8], work: &mut [u32], list: &mut [u8], guest: &mut [u8]) -> Answer {
-    let l = case::within(case::number(case, case::LIST), list);
-    let g = case::within(case::number(case, case::GUEST), guest);
+    let l = within(case::number(case, case::LIST), list);
+    let g = within(case::number(case, case::GUEST), guest);
     derived(case, work, &mut list[..l], &mut guest[..g])
 }
 

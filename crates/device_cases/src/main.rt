@@ -1,11 +1,12 @@
 // Asks for the list alone, of the bench tree on standard input, and prints a line for each case: its label, the answer, and digests
 // of the list's room and of the work space at return. tools/device_cases.py says what is expected.
+use cases::within;
+use cases::within_words;
 use device::Answer;
 use device::Refusal;
 use device::find_all_passthrough_devices;
 use libc::STDIN_FILENO;
 use libc::STDOUT_FILENO;
-ghost use Rattle.io.specs.Counts.{Counts};
 
 // Room for the host, for the most words that a case lends, and for the longest list.
 const HOST: usize = 512;
@@ -30,21 +31,8 @@ fn refused(number: u64, place: usize) {
 }
 
 fn tell_reader(refusal: reader::Refusal) {
-    match refusal {
-        reader::Refusal::NoSpace => refused(40, 0),
-        reader::Refusal::Short => refused(1, 0),
-        reader::Refusal::Magic => refused(2, 0),
-        reader::Refusal::Total => refused(3, 0),
-        reader::Refusal::Version => refused(4, 0),
-        reader::Refusal::Layout => refused(5, 0),
-        reader::Refusal::Shape { at } => refused(6, at),
-        reader::Refusal::Name { at } => refused(7, at),
-        reader::Refusal::Deep { at } => refused(8, at),
-        reader::Refusal::Many { at } => refused(9, at),
-        reader::Refusal::Doubled { at } => refused(10, at),
-        reader::Refusal::Cells { at } => refused(11, at),
-        reader::Refusal::Shared { at } => refused(12, at),
-    }
+    let t = reader::told(refusal);
+    refused(t.number, t.place);
 }
 
 fn tell_refusal(refusal: Refusal) {
@@ -67,56 +55,14 @@ fn tell(answer: Answer) {
     }
 }
 
-fn mixed(h: u32, word: u32) -> u32 {
-    let wide = (h as u64) * 16777619 + (word as u64) + 1;
-    (wide % 4294967296) as u32
-}
-
-fn wide(x: u8) -> u32 {
-    x as u32
-}
-
-fn digest(work: &[u32]) -> u32 {
-    let mut h: u32 = 0;
-    let mut i = 0;
-    while i < work.len() {
-        h = mixed(h, work[i]);
-        i += 1;
-    }
-    h
-}
-
-fn digest_bytes(s: &[u8]) -> u32 {
-    let mut h: u32 = 0;
-    let mut i = 0;
-    while i < s.len() {
-        h = mixed(h, wide(s[i]));
-        i += 1;
-    }
-    h
-}
-
-// n, or how many there are where n is more; said so that a part of that length may be lent.
-fn within(n: usize, buf: &[u8]) -> usize
-    ensures { λ r. ⌜ Counts r (now (buf .entry)) ⌝ }
-{
-    if n < buf.len() { n } else { buf.len() }
-}
-
-fn within_words(n: usize, buf: &[u32]) -> usize
-    ensures { λ r. ⌜ Counts r (now (buf .entry)) ⌝ }
-{
-    if n < buf.len() { n } else { buf.len() }
-}
-
 fn print_digest(label: &[u8], h: u32) {
     io::write_all(STDOUT_FILENO, label);
     io::print_hex(STDOUT_FILENO, h as u64, 8);
 }
 
 fn left(list: &[u8], work: &[u32]) {
-    print_digest(b", left ", digest_bytes(list));
-    print_digest(b" ", digest(work));
+    print_digest(b", left ", cases::digest(list));
+    print_digest(b" ", cases::digest_words(work));
     io::write_all(STDOUT_FILENO, b"\n");
 }
 

@@ -10,7 +10,7 @@ ghost use lib.ListN.{length, take};
 ghost use Rattle.rules.specs.Lists.{oneOf};
 ghost use Rattle.rules.specs.Octets.{if_then_else_, padded, hasNul};
 ghost use Rattle.rules.specs.Writer.{room, impossible, beginJudged, endJudged, finishJudged, badList};
-ghost use Rattle.judge.specs.Meaning.{stateOf};
+ghost use Rattle.judge.specs.Meaning.{stateOf, numberOf};
 ghost use Rattle.judge.specs.Judged.{verdictOf, placeOf, placed, phandlePlaced};
 
 // Why a call is refused: 20 to 34, in this order. The writer passes it on under its own name.
@@ -45,6 +45,29 @@ pub enum Error {
     NoRoom,
     // The state is finished, or its numbers cannot be so.
     ImpossibleState,
+}
+
+// The paper's number of a refusal: 20 to 34.
+pub fn number(error: Error) -> u64
+    ensures { λ r. ⌜ r ≡ numberOf error ⌝ }
+{
+    match error {
+        Error::PropertyBeforeBeginNode => 20,
+        Error::PropertyAfterEndNode => 21,
+        Error::PropertyValueTooLarge => 22,
+        Error::TotalSizeTooLarge => 23,
+        Error::InvalidString => 24,
+        Error::OutOfOrderEndNode => 25,
+        Error::UnclosedNode => 26,
+        Error::InvalidMemoryReservation => 27,
+        Error::OverlappingMemoryReservations => 28,
+        Error::InvalidNodeName => 29,
+        Error::InvalidPropertyName => 30,
+        Error::NodeDepthTooLarge => 31,
+        Error::DuplicatePhandle => 32,
+        Error::NoRoom => 33,
+        Error::ImpossibleState => 34,
+    }
 }
 
 // The writer's state, as a plain value to judge.

@@ -8,6 +8,9 @@
 mod script;
 mod tell;
 
+use cases::within;
+use cases::within_longs;
+use cases::within_words;
 use libc::STDIN_FILENO;
 use references::rows;
 use reservation::Made;
@@ -18,7 +21,6 @@ use script::unhex;
 use script::word;
 use writer::FdtWriter;
 use writer::Written;
-ghost use Rattle.io.specs.Counts.{Counts};
 
 const DATA: usize = 4096;
 
@@ -31,6 +33,11 @@ const HEAD: usize = 46;
 const TEXT: usize = 1024;
 
 const RAW: usize = 4100;
+
+// What stands in the buffers that are lent anew.
+const FILL: u8 = 238;
+
+const FILL_WORD: u32 = 7;
 
 // The writer's state, and how much of each buffer is lent.
 struct Session {
@@ -59,41 +66,6 @@ struct Asked {
     b: u64,
     name: usize,
     val: usize,
-}
-
-// n, or how many there are where n is more; said so that a part of that length may be lent.
-fn within(n: usize, buf: &[u8]) -> usize
-    ensures { λ r. ⌜ Counts r (now (buf .entry)) ⌝ }
-{
-    if n < buf.len() { n } else { buf.len() }
-}
-
-fn within_words(n: usize, buf: &[u32]) -> usize
-    ensures { λ r. ⌜ Counts r (now (buf .entry)) ⌝ }
-{
-    if n < buf.len() { n } else { buf.len() }
-}
-
-fn within_longs(n: usize, buf: &[u64]) -> usize
-    ensures { λ r. ⌜ Counts r (now (buf .entry)) ⌝ }
-{
-    if n < buf.len() { n } else { buf.len() }
-}
-
-fn fill(s: &mut [u8]) {
-    let mut i = 0;
-    while i < s.len() {
-        s[i] = 238;
-        i += 1;
-    }
-}
-
-fn fill_words(s: &mut [u32]) {
-    let mut i = 0;
-    while i < s.len() {
-        s[i] = 7;
-        i += 1;
-    }
 }
 
 // The reservation, or r where there is none such.
@@ -365,9 +337,9 @@ fn answer(
             s
         }
         b'l' => {
-            fill(data);
-            fill(strings);
-            fill_words(phandles);
+            cases::fill(data, FILL);
+            cases::fill(strings, FILL);
+            cases::fill_words(phandles, FILL_WORD);
             lend(q, octets::word(val, 0) as usize)
         }
         _ => on(q, s, data, strings, phandles, name, val),

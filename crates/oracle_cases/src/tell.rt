@@ -1,59 +1,15 @@
 // What is told of a question: a line of hexadecimal numbers, each as wide as its place is.
+use cases::digest;
+use cases::digest_words;
 use libc::STDOUT_FILENO;
-use writer::Error;
 use writer::FdtWriter;
 use writer::Written;
 
 const LINE: usize = 140;
 
-// The paper's number, as two digits that read as decimal ones.
-fn number(e: Error) -> u64 {
-    match e {
-        Error::PropertyBeforeBeginNode => 0x20,
-        Error::PropertyAfterEndNode => 0x21,
-        Error::PropertyValueTooLarge => 0x22,
-        Error::TotalSizeTooLarge => 0x23,
-        Error::InvalidString => 0x24,
-        Error::OutOfOrderEndNode => 0x25,
-        Error::UnclosedNode => 0x26,
-        Error::InvalidMemoryReservation => 0x27,
-        Error::OverlappingMemoryReservations => 0x28,
-        Error::InvalidNodeName => 0x29,
-        Error::InvalidPropertyName => 0x30,
-        Error::NodeDepthTooLarge => 0x31,
-        Error::DuplicatePhandle => 0x32,
-        Error::NoRoom => 0x33,
-        Error::ImpossibleState => 0x34,
-    }
-}
-
-// One more number in a digest of 32 bits.
-fn mixed(h: u64, x: u32) -> u64 {
-    (h % 4294967296 * 16777619 + x as u64) % 4294967296
-}
-
-fn wide(x: u8) -> u32 {
-    x as u32
-}
-
-fn digest(s: &[u8]) -> u64 {
-    let mut h: u64 = 2166136261;
-    let mut i = 0;
-    while i < s.len() {
-        h = mixed(h, wide(s[i]));
-        i += 1;
-    }
-    h
-}
-
-fn digest_words(s: &[u32]) -> u64 {
-    let mut h: u64 = 2166136261;
-    let mut i = 0;
-    while i < s.len() {
-        h = mixed(h, s[i]);
-        i += 1;
-    }
-    h
+// A number below 100 as two digits that read as decimal ones.
+fn decimal(n: u64) -> u64 {
+    n % 100 / 10 * 16 + n % 10
 }
 
 fn flag(b: bool) -> u64 {
@@ -95,7 +51,7 @@ fn blank() -> [u8; LINE] {
 fn refusal(answer: Written) -> u64 {
     match answer {
         Written::Done(_) => 0,
-        Written::Refused(_, e) => number(e),
+        Written::Refused(_, e) => decimal(judge::number(e)),
     }
 }
 
@@ -114,9 +70,9 @@ pub(crate) fn told(answer: Written, data: &[u8], strings: &[u8], phandles: &[u32
     let mut line = blank();
     put(&mut line, 0, refusal(answer), 2);
     state(&mut line, w);
-    put(&mut line, 101, digest(data), 8);
-    put(&mut line, 110, digest(strings), 8);
-    put(&mut line, 119, digest_words(phandles), 8);
+    put(&mut line, 101, digest(data) as u64, 8);
+    put(&mut line, 110, digest(strings) as u64, 8);
+    put(&mut line, 119, digest_words(phandles) as u64, 8);
     show(&line, 128);
     w
 }

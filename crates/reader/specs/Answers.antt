@@ -1,4 +1,5 @@
 -- The paper's number and place for each answer.
+use mathlib.Core.Path.{_≡_, refl}
 use Prim.Native.Nat.{ℕ}
 use Rattle.rules.specs.Outcome.{Outcome, gives, refuses}
 use Rattle.reader.specs.declared.Refusal.{Refusal}
@@ -20,6 +21,36 @@ refused (Many at) = refuses 9 at
 refused (Doubled at) = refuses 10 at
 refused (Cells at) = refuses 11 at
 refused (Shared at) = refuses 12 at
+
+abbrev numberIn : Outcome ℕ → ℕ
+numberIn (gives n) = 0
+numberIn (refuses number place) = number
+
+abbrev placeIn : Outcome ℕ → ℕ
+placeIn (gives n) = 0
+placeIn (refuses number place) = place
+
+abbrev pub numberOf : Refusal → ℕ
+numberOf r = numberIn (refused r)
+
+abbrev pub placeOf : Refusal → ℕ
+placeOf r = placeIn (refused r)
+
+-- a refusal is its number and its place, whatever is refused
+pub told : {A : Type 0} (r : Refusal) → refused {A = A} r ≡ refuses (numberOf r) (placeOf r)
+told NoSpace = refl
+told Short = refl
+told Magic = refl
+told Total = refl
+told Version = refl
+told Layout = refl
+told (Shape at) = refl
+told (Name at) = refl
+told (Deep at) = refl
+told (Many at) = refl
+told (Doubled at) = refl
+told (Cells at) = refl
+told (Shared at) = refl
 
 abbrev pub meaning : Answer → Outcome ℕ
 meaning (Nodes count) = gives count

@@ -2,10 +2,12 @@
 -- would have been answered.
 use mathlib.Core.Path.{_≡_, refl}
 use Prim.Native.Nat.{ℕ}
+use lib.Dec.{eqb}
+use Rattle.rules.specs.Octets.{if_then_else_}
 use Rattle.rules.specs.Outcome.{Outcome, refuses}
 use Rattle.reader.specs.declared.Refusal.{Refusal}
 use Rattle.reader.specs.declared.Refusal.the-variants.{NoSpace, Short, Magic, Total, Version, Layout, Shape, Name, Deep, Many, Doubled, Cells, Shared}
-use Rattle.reader.specs.Answers.{refused}
+use Rattle.reader.specs.Answers.{refused, numberOf, placeOf, told}
 
 -- A refusal as it is carried inside: 1 to 12. 40 is the caller's own and is not carried; it would have the number 0, which no refusal
 -- has.
@@ -24,6 +26,25 @@ inside (Doubled at) = refused (Doubled at)
 inside (Cells at) = refused (Cells at)
 inside (Shared at) = refused (Shared at)
 
+-- the number of a refusal that is carried inside
+abbrev pub insideNumber : Refusal → ℕ
+insideNumber r = if eqb (numberOf r) 40 then 0 else numberOf r
+
+pub inside-told : {A : Type 0} (r : Refusal) → inside {A = A} r ≡ refuses (insideNumber r) (placeOf r)
+inside-told NoSpace = refl
+inside-told Short = refl
+inside-told Magic = refl
+inside-told Total = refl
+inside-told Version = refl
+inside-told Layout = refl
+inside-told (Shape at) = refl
+inside-told (Name at) = refl
+inside-told (Deep at) = refl
+inside-told (Many at) = refl
+inside-told (Doubled at) = refl
+inside-told (Cells at) = refl
+inside-told (Shared at) = refl
+
 -- every refusal has a number and a place, whatever is refused
 pub record Said {A B : Type 0} (a : Outcome A) (b : Outcome B) : Type 1 where
   pub number : ℕ
@@ -32,31 +53,7 @@ pub record Said {A B : Type 0} (a : Outcome A) (b : Outcome B) : Type 1 where
   pub second : b ≡ refuses number place
 
 pub read-said : {A B : Type 0} (r : Refusal) → Said (refused {A = A} r) (refused {A = B} r)
-read-said NoSpace = record { number = 40; place = 0; first = refl; second = refl }
-read-said Short = record { number = 1; place = 0; first = refl; second = refl }
-read-said Magic = record { number = 2; place = 0; first = refl; second = refl }
-read-said Total = record { number = 3; place = 0; first = refl; second = refl }
-read-said Version = record { number = 4; place = 0; first = refl; second = refl }
-read-said Layout = record { number = 5; place = 0; first = refl; second = refl }
-read-said (Shape at) = record { number = 6; place = at; first = refl; second = refl }
-read-said (Name at) = record { number = 7; place = at; first = refl; second = refl }
-read-said (Deep at) = record { number = 8; place = at; first = refl; second = refl }
-read-said (Many at) = record { number = 9; place = at; first = refl; second = refl }
-read-said (Doubled at) = record { number = 10; place = at; first = refl; second = refl }
-read-said (Cells at) = record { number = 11; place = at; first = refl; second = refl }
-read-said (Shared at) = record { number = 12; place = at; first = refl; second = refl }
+read-said r = record { number = numberOf r; place = placeOf r; first = told r; second = told r }
 
 pub inside-said : {A B : Type 0} (r : Refusal) → Said (inside {A = A} r) (inside {A = B} r)
-inside-said NoSpace = record { number = 0; place = 0; first = refl; second = refl }
-inside-said Short = record { number = 1; place = 0; first = refl; second = refl }
-inside-said Magic = record { number = 2; place = 0; first = refl; second = refl }
-inside-said Total = record { number = 3; place = 0; first = refl; second = refl }
-inside-said Version = record { number = 4; place = 0; first = refl; second = refl }
-inside-said Layout = record { number = 5; place = 0; first = refl; second = refl }
-inside-said (Shape at) = record { number = 6; place = at; first = refl; second = refl }
-inside-said (Name at) = record { number = 7; place = at; first = refl; second = refl }
-inside-said (Deep at) = record { number = 8; place = at; first = refl; second = refl }
-inside-said (Many at) = record { number = 9; place = at; first = refl; second = refl }
-inside-said (Doubled at) = record { number = 10; place = at; first = refl; second = refl }
-inside-said (Cells at) = record { number = 11; place = at; first = refl; second = refl }
-inside-said (Shared at) = record { number = 12; place = at; first = refl; second = refl }
+inside-said r = record { number = insideNumber r; place = placeOf r; first = inside-told r; second = inside-told r }

@@ -15,7 +15,7 @@ ghost use Rattle.rules.specs.Blob.{blockIn};
 ghost use Rattle.rules.specs.Reader.{read, readWork, spaceOf};
 ghost use Rattle.header.specs.Header.{Found, refused as headed};
 ghost use Rattle.shape.specs.Answers.{refused as shaped};
-ghost use Rattle.reader.specs.Answers.{refused, meaning};
+ghost use Rattle.reader.specs.Answers.{refused, meaning, numberOf, placeOf};
 ghost use Rattle.reader.specs.Whole.{Judged};
 
 // Why a blob is refused, in the order in which it is judged. `at` is the blob offset of the first offending token.
@@ -52,6 +52,39 @@ pub enum Refusal {
 pub enum Answer {
     Nodes(usize),
     Refused(Refusal),
+}
+
+// A refusal as the paper has it.
+pub struct Numbered {
+    pub number: u64,
+    pub place: usize,
+}
+
+fn placed(number: u64, place: usize) -> Numbered
+    ensures { λ r. ⌜ (r .number ≡ number) × (r .place ≡ place) ⌝ }
+{
+    Numbered { number, place }
+}
+
+// The number and the place of a refusal: 40 or 1 to 5, and 0; or 6 to 12, and the offset.
+pub fn told(refusal: Refusal) -> Numbered
+    ensures { λ r. ⌜ (r .number ≡ numberOf refusal) × (r .place ≡ placeOf refusal) ⌝ }
+{
+    match refusal {
+        Refusal::NoSpace => placed(40, 0),
+        Refusal::Short => placed(1, 0),
+        Refusal::Magic => placed(2, 0),
+        Refusal::Total => placed(3, 0),
+        Refusal::Version => placed(4, 0),
+        Refusal::Layout => placed(5, 0),
+        Refusal::Shape { at } => placed(6, at),
+        Refusal::Name { at } => placed(7, at),
+        Refusal::Deep { at } => placed(8, at),
+        Refusal::Many { at } => placed(9, at),
+        Refusal::Doubled { at } => placed(10, at),
+        Refusal::Cells { at } => placed(11, at),
+        Refusal::Shared { at } => placed(12, at),
+    }
 }
 
 // The header's refusal as the reader's.

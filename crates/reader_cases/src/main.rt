@@ -1,11 +1,11 @@
 // Runs the reader on the blobs of standard input and prints a line for each: its label, the answer, and a digest of the work
 // space at return. A case is four numbers (the label's length, the blob's, how many zeros follow it, how many words are lent),
 // the label and the blob. tools/reader_cases.py makes the cases and the lines that are expected.
+use cases::within;
+use cases::within_words;
 use libc::STDIN_FILENO;
 use libc::STDOUT_FILENO;
 use reader::Answer;
-use reader::Refusal;
-ghost use Rattle.io.specs.Counts.{Counts};
 
 // Room for the longest blob, with a byte over the ceiling, and for the most words that a case lends.
 const BLOB: usize = 1048640;
@@ -24,12 +24,6 @@ struct Head {
     words: usize,
 }
 
-// A refusal's number and place.
-struct Told {
-    number: u64,
-    place: u64,
-}
-
 fn number(s: &[u8], at: usize) -> usize {
     octets::word(s, at) as usize
 }
@@ -43,31 +37,6 @@ fn head_of(s: &[u8; 16]) -> Head {
     }
 }
 
-fn placed(number: u64, at: usize) -> Told {
-    Told {
-        number,
-        place: at as u64,
-    }
-}
-
-fn tell(refusal: Refusal) -> Told {
-    match refusal {
-        Refusal::NoSpace => placed(40, 0),
-        Refusal::Short => placed(1, 0),
-        Refusal::Magic => placed(2, 0),
-        Refusal::Total => placed(3, 0),
-        Refusal::Version => placed(4, 0),
-        Refusal::Layout => placed(5, 0),
-        Refusal::Shape { at } => placed(6, at),
-        Refusal::Name { at } => placed(7, at),
-        Refusal::Deep { at } => placed(8, at),
-        Refusal::Many { at } => placed(9, at),
-        Refusal::Doubled { at } => placed(10, at),
-        Refusal::Cells { at } => placed(11, at),
-        Refusal::Shared { at } => placed(12, at),
-    }
-}
-
 fn print_answer(answer: Answer) {
     match answer {
         Answer::Nodes(count) => {
@@ -75,57 +44,21 @@ fn print_answer(answer: Answer) {
             io::print_decimal(STDOUT_FILENO, count as u64);
         }
         Answer::Refused(refusal) => {
-            let t = tell(refusal);
+            let t = reader::told(refusal);
             io::write_all(STDOUT_FILENO, b": refused ");
             io::print_decimal(STDOUT_FILENO, t.number);
             io::write_all(STDOUT_FILENO, b" at ");
-            io::print_decimal(STDOUT_FILENO, t.place);
+            io::print_decimal(STDOUT_FILENO, t.place as u64);
         }
     }
 }
 
-fn mixed(h: u32, word: u32) -> u32 {
-    let wide = (h as u64) * 16777619 + (word as u64) + 1;
-    (wide % 4294967296) as u32
-}
-
-fn digest(work: &[u32]) -> u32 {
-    let mut h: u32 = 0;
-    let mut i = 0;
-    while i < work.len() {
-        h = mixed(h, work[i]);
-        i += 1;
-    }
-    h
-}
-
-fn fill(work: &mut [u32]) {
-    let mut i = 0;
-    while i < work.len() {
-        work[i] = FILL;
-        i += 1;
-    }
-}
-
 fn run(blob: &[u8], work: &mut [u32]) {
-    fill(work);
+    cases::fill_words(work, FILL);
     print_answer(reader::read(blob, work));
     io::write_all(STDOUT_FILENO, b", work ");
-    io::print_hex(STDOUT_FILENO, digest(work) as u64, 8);
+    io::print_hex(STDOUT_FILENO, cases::digest_words(work) as u64, 8);
     io::write_all(STDOUT_FILENO, b"\n");
-}
-
-// n, or how many there are where n is more; said so that a part of that length may be lent.
-fn within(n: usize, buf: &[u8]) -> usize
-    ensures { λ r. ⌜ Counts r (now (buf .entry)) ⌝ }
-{
-    if n < buf.len() { n } else { buf.len() }
-}
-
-fn within_words(n: usize, buf: &[u32]) -> usize
-    ensures { λ r. ⌜ Counts r (now (buf .entry)) ⌝ }
-{
-    if n < buf.len() { n } else { buf.len() }
 }
 
 // Reads n bytes of the case, or as many as there is room for, and answers how many.

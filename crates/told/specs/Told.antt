@@ -1,11 +1,11 @@
 -- The number and the place of a refusal, as they are printed.
-use mathlib.Core.Path.{_≡_, refl}
+use mathlib.Core.Path.{_≡_, refl, ap, _∙_}
 use Prim.Native.Nat.{ℕ}
 use Rattle.rules.specs.Outcome.{Outcome, gives, refuses}
 use Rattle.rules.specs.Derivation.{Derived}
 use Rattle.reader.specs.declared.Refusal as reader-declared
-use Rattle.reader.specs.declared.Refusal.the-variants as read
-use Rattle.reader.specs.Carried.{inside}
+use Rattle.reader.specs.Answers as read
+use Rattle.reader.specs.Carried.{inside, insideNumber, inside-told}
 use Rattle.derive.specs.Answers as derive
 use Rattle.derive.specs.declared.Refusal as derive-declared
 use Rattle.derive.specs.declared.Refusal.the-variants as derived
@@ -30,25 +30,17 @@ numberOf r = numberIn (derive.refused r)
 abbrev pub placeOf : derive-declared.Refusal → ℕ
 placeOf r = placeIn (derive.refused r)
 
-reader-told : (r : reader-declared.Refusal) → inside {A = Derived} r ≡ refuses (readerNumber r) (readerPlace r)
-reader-told read.NoSpace = refl
-reader-told read.Short = refl
-reader-told read.Magic = refl
-reader-told read.Total = refl
-reader-told read.Version = refl
-reader-told read.Layout = refl
-reader-told (read.Shape at) = refl
-reader-told (read.Name at) = refl
-reader-told (read.Deep at) = refl
-reader-told (read.Many at) = refl
-reader-told (read.Doubled at) = refl
-reader-told (read.Cells at) = refl
-reader-told (read.Shared at) = refl
+-- what the reader tells of a refusal, but for 40, is told of the one that carries it
+pub reader-number : (r : reader-declared.Refusal) → readerNumber r ≡ insideNumber r
+reader-number r = ap numberIn (inside-told r)
+
+pub reader-place : (r : reader-declared.Refusal) → readerPlace r ≡ read.placeOf r
+reader-place r = ap placeIn (inside-told r)
 
 -- a refusal is its number and its place
 pub told : (r : derive-declared.Refusal) → derive.refused {A = Derived} r ≡ refuses (numberOf r) (placeOf r)
 told derived.NoSpace = refl
-told (derived.Reader r) = reader-told r
+told (derived.Reader r) = inside-told r ∙ rw (reader-number r, reader-place r)
 told (derived.Lists at) = refl
 told (derived.Configured at) = refl
 told (derived.Register at) = refl

@@ -7,41 +7,14 @@ ghost use Rattle.told.specs.Told.{readerNumber, readerPlace, numberOf, p
 fn reader_number(refusal: reader::Refusal) -> u64
     ensures { λ r. ⌜ r ≡ readerNumber refusal ⌝ }
 {
-    match refusal {
-        reader::Refusal::NoSpace => 0,
-        reader::Refusal::Short => 1,
-        reader::Refusal::Magic => 2,
-        reader::Refusal::Total => 3,
-        reader::Refusal::Version => 4,
-        reader::Refusal::Layout => 5,
-        reader::Refusal::Shape { at: _ } => 6,
-        reader::Refusal::Name { at: _ } => 7,
-        reader::Refusal::Deep { at: _ } => 8,
-        reader::Refusal::Many { at: _ } => 9,
-        reader::Refusal::Doubled { at: _ } => 10,
-        reader::Refusal::Cells { at: _ } => 11,
-        reader::Refusal::Shared { at: _ } => 12,
-    }
+    let n = reader::told(refusal).number;
+    if n == 40 { 0 } else { n }
 }
 
 fn reader_place(refusal: reader::Refusal) -> usize
     ensures { λ r. ⌜ r ≡ readerPlace refusal ⌝ }
 {
-    match refusal {
-        reader::Refusal::NoSpace => 0,
-        reader::Refusal::Short => 0,
-        reader::Refusal::Magic => 0,
-        reader::Refusal::Total => 0,
-        reader::Refusal::Version => 0,
-        reader::Refusal::Layout => 0,
-        reader::Refusal::Shape { at } => at,
-        reader::Refusal::Name { at } => at,
-        reader::Refusal::Deep { at } => at,
-        reader::Refusal::Many { at } => at,
-        reader::Refusal::Doubled { at } => at,
-        reader::Refusal::Cells { at } => at,
-        reader::Refusal::Shared { at } => at,
-    }
+    reader::told(refusal).place
 }
 
 // The number of a refusal: 1 to 12, or 40 to 46.

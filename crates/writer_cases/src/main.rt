@@ -8,6 +8,8 @@
 mod script;
 mod tell;
 
+use cases::within;
+use cases::within_words;
 use libc::STDIN_FILENO;
 use reservation::Made;
 use reservation::Reservation;
@@ -19,7 +21,6 @@ use script::span;
 use script::word;
 use writer::FdtWriter;
 use writer::Written;
-ghost use Rattle.io.specs.Counts.{Counts};
 
 // As much data as a case can be lent: more than counts.
 const DATA_LENT: usize = BLOB_CEILING + 8;
@@ -27,6 +28,11 @@ const DATA_LENT: usize = BLOB_CEILING + 8;
 const STRINGS_LENT: usize = 4096;
 
 const PHANDLES_LENT: usize = 8;
+
+// What stands in the buffers before a case.
+const FILL: u8 = 238;
+
+const FILL_WORD: u32 = 7;
 
 // The writer's state, how much of each buffer is lent, and whether the next line is the first of a case.
 struct Session {
@@ -42,19 +48,6 @@ impl Session {
         self.w = w;
         self
     }
-}
-
-// n, or how many there are where n is more; said so that a part of that length may be lent.
-fn within(n: usize, buf: &[u8]) -> usize
-    ensures { λ r. ⌜ Counts r (now (buf .entry)) ⌝ }
-{
-    if n < buf.len() { n } else { buf.len() }
-}
-
-fn within_words(n: usize, buf: &[u32]) -> usize
-    ensures { λ r. ⌜ Counts r (now (buf .entry)) ⌝ }
-{
-    if n < buf.len() { n } else { buf.len() }
 }
 
 // The reservation, or r where there is none such.
@@ -262,22 +255,6 @@ fn on(
     s.with(after)
 }
 
-fn fill(data: &mut [u8]) {
-    let mut i = 0;
-    while i < data.len() {
-        data[i] = 238;
-        i += 1;
-    }
-}
-
-fn fill_words(phandles: &mut [u32]) {
-    let mut i = 0;
-    while i < phandles.len() {
-        phandles[i] = 7;
-        i += 1;
-    }
-}
-
 fn nothing() -> FdtWriter {
     FdtWriter {
         data_len: 0,
@@ -335,9 +312,9 @@ fn turn(
     }
     if s.first {
         head(line);
-        fill(data);
-        fill(strings);
-        fill_words(phandles);
+        cases::fill(data, FILL);
+        cases::fill(strings, FILL);
+        cases::fill_words(phandles, FILL_WORD);
         return lent(line);
     }
     on(line, s, data, strings, phandles)

@@ -1,58 +1,9 @@
 // What is told of a call.
+use cases::digest;
+use cases::digest_words;
 use libc::STDOUT_FILENO;
-use writer::Error;
 use writer::FdtWriter;
 use writer::Written;
-
-// The paper's number.
-fn number(e: Error) -> u64 {
-    match e {
-        Error::PropertyBeforeBeginNode => 20,
-        Error::PropertyAfterEndNode => 21,
-        Error::PropertyValueTooLarge => 22,
-        Error::TotalSizeTooLarge => 23,
-        Error::InvalidString => 24,
-        Error::OutOfOrderEndNode => 25,
-        Error::UnclosedNode => 26,
-        Error::InvalidMemoryReservation => 27,
-        Error::OverlappingMemoryReservations => 28,
-        Error::InvalidNodeName => 29,
-        Error::InvalidPropertyName => 30,
-        Error::NodeDepthTooLarge => 31,
-        Error::DuplicatePhandle => 32,
-        Error::NoRoom => 33,
-        Error::ImpossibleState => 34,
-    }
-}
-
-// One more number in a digest of 32 bits.
-fn mixed(h: u64, x: u32) -> u64 {
-    (h % 4294967296 * 16777619 + x as u64) % 4294967296
-}
-
-fn wide(x: u8) -> u32 {
-    x as u32
-}
-
-fn digest(s: &[u8]) -> u64 {
-    let mut h: u64 = 2166136261;
-    let mut i = 0;
-    while i < s.len() {
-        h = mixed(h, wide(s[i]));
-        i += 1;
-    }
-    h
-}
-
-fn digest_words(s: &[u32]) -> u64 {
-    let mut h: u64 = 2166136261;
-    let mut i = 0;
-    while i < s.len() {
-        h = mixed(h, s[i]);
-        i += 1;
-    }
-    h
-}
 
 fn flag(b: bool) -> u64 {
     if b { 1 } else { 0 }
@@ -94,7 +45,7 @@ pub(crate) fn end() {
 fn refusal(answer: Written) -> u64 {
     match answer {
         Written::Done(_) => 0,
-        Written::Refused(_, e) => number(e),
+        Written::Refused(_, e) => judge::number(e),
     }
 }
 
@@ -112,9 +63,9 @@ pub(crate) fn told(answer: Written, data: &[u8], strings: &[u8], phandles: &[u32
     column(refusal(answer));
     column(0);
     state(w);
-    column(digest(data));
-    column(digest(strings));
-    column(digest_words(phandles));
+    column(digest(data) as u64);
+    column(digest(strings) as u64);
+    column(digest_words(phandles) as u64);
     end();
     w
 }

@@ -1,0 +1,4 @@
+-- What the contracts of this library cite.
+pub mod Case
+pub mod Digests
+pub mod Lent
