@@ -8,27 +8,20 @@ use native.Mathlib.Omega.{arith}
 use lib.Dec.{eqb}
 use lib.ListN.{length}
 use borrow.Author.Tests.{ne-eqb}
-use types.Run.{OneOf, miss}
-use denote.Enum.Declared.{tagOf}
-use Rattle.rules.proofs.Token as tokened
 use Rattle.rules.specs.Octets.{Bytes, wordAt, longAt, number, numberAfter, part, ascii, same}
 use Rattle.rules.specs.Blob.{Block}
-use Rattle.rules.specs.Tokens.{tokenAt}
-use Rattle.rules.specs.Events.{Property, Event, stringAt, saying}
+use Rattle.rules.specs.Events.{Property, stringAt}
 use Rattle.rules.specs.Tree.{Node, node, propsOf, valueOf}
 use Rattle.rules.specs.Copy.{registerOf, regOf}
-use Rattle.rules.specs.declared.Token.{Token}
-use Rattle.rules.specs.declared.Token.the-variants.{Item, End, Cut}
-use Rattle.rules.specs.declared.Kind.{Kind}
-use Rattle.rules.specs.declared.Kind.the-variants.{Begin, EndNode, Prop, Nop}
 use Rattle.rules.specs.Laws.Tests.{by-test}
-use Rattle.rules.specs.Laws.Events.{eventsAt, events-item, events-end, events-cut}
-use Rattle.rules.specs.Laws.Tabled.{propsBehind, propsAt, beginOf, treeIn, node-in, node-out}
-use Rattle.cpus.specs.declared.register.Register.{Register}
-use Rattle.cpus.specs.declared.register.Register.the-variants.{Number, Missing}
-use Rattle.cpus.specs.declared.register.Turn.{Turn}
-use Rattle.cpus.specs.declared.register.Turn.the-variants.{Value, On, Done}
-use Rattle.cpus.specs.Registers.{meaning, registerIn, regIn, onKind, onProp}
+use Rattle.rules.specs.Laws.Events.{eventsAt}
+use Rattle.rules.specs.Laws.Tabled.{propsAt, beginOf, treeIn, node-in, node-out}
+use Rattle.tokens.specs.declared.Property as next
+use Rattle.tokens.specs.declared.Property.the-variants.{Here, Missing}
+use Rattle.tokens.specs.Properties.{behindAt, propertyAt}
+use Rattle.tokens.proofs.Properties.{behind-props, props-none, props-here}
+use Rattle.cpus.specs.declared.register.Register.the-variants.{Number, Missing as Unread}
+use Rattle.cpus.specs.Registers.{meaning, registerIn, regIn}
 
 -- ---- numbers
 
@@ -61,7 +54,7 @@ module _ (v : Bytes) where
   pub in-eight : length v ≡ 8 → Number (longAt v 0) ≡ registerIn v
   in-eight h = rw (eight-number v h, h)
 
-  pub in-other : (length v ≡ 4 → ⊥) → (length v ≡ 8 → ⊥) → Missing ≡ registerIn v
+  pub in-other : (length v ≡ 4 → ⊥) → (length v ≡ 8 → ⊥) → Unread ≡ registerIn v
   in-other f g = rw (ne-eqb (length v) 4 f, ne-eqb (length v) 8 g)
 
 pub in-means : (v : Bytes) → meaning (registerIn v) ≡ registerOf (some v)
@@ -69,83 +62,38 @@ in-means v = by-test (eqb (length v) 4 || eqb (length v) 8) (λ e. rw e) (λ e. 
 
 -- ---- the search
 
--- what the search says behind a turn
-abbrev said : Turn → Option ℕ → Option ℕ
-said (Value v) x = meaning v
-said On x = x
-said Done x = none
-
 reg-none : regIn [] ≡ none
 unfolding valueOf
 reg-none = refl
 
-reg-has : (p : Property) (ps : List Property) → regIn (p ∷ ps) ≡ said (onProp (same (ascii "reg") (p .name)) (p .value)) (regIn ps)
-unfolding valueOf
-reg-has p ps = by-test (same (ascii "reg") (p .name))
-    (λ e. rw (valueOf, e) (sym (in-means (p .value))))
-    (λ e. rw (valueOf, e))
+module _ (p : Property) (ps : List Property) where
+  reg-hit : same (ascii "reg") (p .name) ≡ true → regIn (p ∷ ps) ≡ meaning (registerIn (p .value))
+  unfolding valueOf
+  reg-hit e = rw (valueOf, e) (sym (in-means (p .value)))
 
-reg-said : (b : Block) (at : ℕ) (kind : Kind) (next : ℕ) (es : List Event)
-    → regIn (propsOf (saying b at (Item kind next) es)) ≡ said (onKind (b .structure) (b .strings) kind) (regIn (propsOf es))
-unfolding propsOf
-reg-said b at (Begin len) next es = reg-none
-reg-said b at EndNode next es = reg-none
-reg-said b at (Prop len name value) next es = reg-has _ (propsOf es)
-reg-said b at Nop next es = refl
+  reg-miss : same (ascii "reg") (p .name) ≡ false → regIn (p ∷ ps) ≡ regIn ps
+  unfolding valueOf
+  reg-miss e = rw (valueOf, e)
 
 -- what `reg` says, from a place on
 abbrev pub regAt : Block → ℕ → Option ℕ
 regAt b at = regIn (propsOf (eventsAt b at))
 
-module _ (b : Block) (at : ℕ) (r : Token) (e : r ≡ tokenAt (b .structure) at) where
-  -- the node's own BEGIN
-  pub reg-first : (kind : Kind) (next : ℕ) → r ≡ Item kind next → regIn (propsAt b at) ≡ regAt b next
-  unfolding propsAt
-  reg-first kind next f = ap (λ (t : Token). regIn (propsBehind b t)) (sym e ∙ f)
+module _ (b : Block) where
+  -- behind the node's own BEGIN
+  pub reg-first : (begin at : ℕ) → at ≡ behindAt (b .structure) begin → regIn (propsAt b begin) ≡ regAt b at
+  reg-first begin at e = ap regIn (behind-props b begin) ∙ ap (regAt b) (sym e)
 
-  pub reg-nowhere : OneOf (1 ∷ 2 ∷ []) (tagOf tokened.the-type r) → regIn (propsAt b at) ≡ none
-  unfolding propsAt
-  reg-nowhere h = ap (λ (t : Token). regIn (propsBehind b t)) (sym e) ∙ by r h
-    where
-      by : (t : Token) → OneOf (1 ∷ 2 ∷ []) (tagOf tokened.the-type t) → regIn (propsBehind b t) ≡ none
-      by (Item kind next) h = absurd (miss (1 ∷ 2 ∷ []) 0 tt h)
-      by End h = reg-none
-      by Cut h = reg-none
+  module _ (at : ℕ) (i : at ≤ length (b .structure)) (r : next.Property) (e : r ≡ propertyAt (b .structure) at) where
+    pub reg-end : r ≡ Missing → regAt b at ≡ none
+    reg-end f = ap regIn (props-none b at i r e f) ∙ reg-none
 
-  module _ (i : at ≤ length (b .structure)) where
-    pub reg-stop : OneOf (1 ∷ 2 ∷ []) (tagOf tokened.the-type r) → regAt b at ≡ none
-    unfolding propsOf
-    reg-stop h = ap (λ (es : List Event). regIn (propsOf es)) (by r e h) ∙ reg-none
-      where
-        by : (t : Token) → t ≡ tokenAt (b .structure) at → OneOf (1 ∷ 2 ∷ []) (tagOf tokened.the-type t) → eventsAt b at ≡ []
-        by (Item kind next) f h = absurd (miss (1 ∷ 2 ∷ []) 0 tt h)
-        by End f h = events-end b at i (sym f)
-        by Cut f h = events-cut b at i (sym f)
+    module _ (here len name value next : ℕ) (f : r ≡ Here here len name value next) where
+      pub reg-value : same (ascii "reg") (stringAt (b .strings) name) ≡ true → regAt b at ≡ meaning (registerIn (part (b .structure) value len))
+      reg-value g = ap regIn (props-here b at i r e here len name value next f) ∙ reg-hit _ _ g
 
-    module _ (kind : Kind) (next : ℕ) (f : r ≡ Item kind next) (t : Turn) (g : t ≡ onKind (b .structure) (b .strings) kind) where
-      step : regAt b at ≡ said t (regAt b next)
-      step =
-          ap (λ (es : List Event). regIn (propsOf es)) (events-item b at i kind next (sym e ∙ f))
-          ∙ reg-said b at kind next (eventsAt b next)
-          ∙ ap (λ (q : Turn). said q (regAt b next)) (sym g)
-
-      pub reg-value : (v : Register) → t ≡ Value v → regAt b at ≡ meaning v
-      reg-value v h = step ∙ ap (λ (q : Turn). said q (regAt b next)) h
-
-      pub reg-done : t ≡ Done → regAt b at ≡ none
-      reg-done h = step ∙ ap (λ (q : Turn). said q (regAt b next)) h
-
-      pub reg-on : t ≡ On → regAt b at ≡ regAt b next
-      reg-on h = step ∙ ap (λ (q : Turn). said q (regAt b next)) h
-
--- ---- one token
-
-module _ (structure strings : Bytes) (kind : Kind) (len name value : ℕ) (e : kind ≡ Prop len name value) where
-  pub turn-other : same (ascii "reg") (stringAt strings name) ≡ false → On ≡ onKind structure strings kind
-  turn-other h = rw (e, h)
-
-  pub turn-value : same (ascii "reg") (stringAt strings name) ≡ true → Value (registerIn (part structure value len)) ≡ onKind structure strings kind
-  turn-value h = rw (e, h)
+      pub reg-on : same (ascii "reg") (stringAt (b .strings) name) ≡ false → regAt b at ≡ regAt b next
+      reg-on g = ap regIn (props-here b at i r e here len name value next f) ∙ reg-miss _ _ g
 
 -- ---- the node's own
 

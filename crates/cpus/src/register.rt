@@ -1,30 +1,18 @@
 // `reg` of a node, read as one number.
-use references::cells::string_at;
-use references::table::cell;
-use rules::Kind;
-use rules::Token;
+use references::table::begin_of;
+use tokens::Property;
 ghost use mathlib.Core.Path.{_≡_};
 ghost use Prim.Native.Nat.{ℕ};
 ghost use Rattle.rules.specs.Blob.{blockOf};
 ghost use Rattle.rules.specs.Tree.{node};
 ghost use Rattle.rules.specs.Copy.{regOf};
 ghost use Rattle.rules.specs.Laws.Tabled.{treeIn, propsAt};
-ghost use Rattle.cpus.specs.Registers.{meaning, registerIn, regIn, onKind};
+ghost use Rattle.cpus.specs.Registers.{meaning, registerIn, regIn};
 
 // A number, or nothing where `reg` is missing or has neither 4 nor 8 bytes.
 pub enum Register {
     Number(u64),
     Missing,
-}
-
-// What a token does to the search.
-pub enum Turn {
-    // It is `reg`, and this is what it says.
-    Value(Register),
-    // The search goes on.
-    On,
-    // The node's properties end here.
-    Done,
 }
 
 // What a value says.
@@ -40,50 +28,26 @@ fn register_in(value: &[u8]) -> Register
     Register::Missing
 }
 
-// One token's part.
-fn after_token(structure: &[u8], strings: &[u8], kind: Kind) -> Turn
-    ensures { λ r. ⌜ r ≡ onKind (now (structure .entry)) (now (strings .entry)) kind ⌝ }
-{
-    match kind {
-        Kind::Begin { len: _ } => Turn::Done,
-        Kind::EndNode => Turn::Done,
-        Kind::Nop => Turn::On,
-        Kind::Prop { len, name, value } => {
-            if !octets::same(b"reg", string_at(strings, name)) {
-                return Turn::On;
-            }
-            Turn::Value(register_in(octets::part(structure, value, len)))
-        }
-    }
-}
-
 // What `reg` of the node says whose BEGIN stands at `begin`; Missing where no item stands there.
 fn reg_of(structure: &[u8], strings: &[u8], begin: usize) -> Register
     ensures { λ r. ⌜ ((place : ℕ) → meaning r ≡ regIn (propsAt (blockOf place (now (structure .entry)) (now (strings .entry))) begin)) ⌝ }
 {
-    let Token::Item {
-        kind: _,
-        next: first,
-    } = tokens::token_at(structure, begin)
-    else {
-        return Register::Missing;
-    };
-    let mut at = first;
+    let mut at = tokens::behind(structure, begin);
     loop {
-        let Token::Item { kind, next } = tokens::token_at(structure, at) else {
+        let Property::Here {
+            at: _,
+            len,
+            name,
+            value,
+            next,
+        } = tokens::property_at(structure, at)
+        else {
             return Register::Missing;
         };
-        match after_token(structure, strings, kind) {
-            Turn::Value(v) => {
-                return v;
-            }
-            Turn::Done => {
-                return Register::Missing;
-            }
-            Turn::On => {
-                at = next;
-            }
+        if octets::same(b"reg", octets::string_at(strings, name)) {
+            return register_in(octets::part(structure, value, len));
         }
+        at = next;
     }
 }
 
@@ -102,9 +66,5 @@ pub fn reg_at(
     if count <= i {
         return Register::Missing;
     }
-    let begin = cell(work, i, 0) as usize;
-    if begin < place {
-        return reg_of(structure, strings, 0);
-    }
-    reg_of(structure, strings, begin - place)
+    reg_of(structure, strings, begin_of(work, place, i))
 }

@@ -12,14 +12,13 @@ use Rattle.rules.specs.Tree.{Tree}
 use Rattle.rules.specs.References.{edition1}
 use Rattle.rules.specs.Listing.{_∈_, listed}
 use Rattle.rules.specs.Copy.{picked, copied}
-use Rattle.rules.specs.Space.{listAt}
+use Rattle.rules.specs.Space.{listAt, listIn}
 use Rattle.rules.specs.Laws.Lists.{mem-at}
 use Rattle.rules.specs.Laws.Listing.{listed-small}
 use Rattle.rules.specs.Laws.Kept.{Kept, kept-alike, tree-alike, only-alike, only-drop, marks-behind, stack-behind}
 use Rattle.rules.specs.Laws.Tabled.{treeIn, tree-length}
 use Rattle.order.specs.Starts.{Asked}
 use Rattle.listing.specs.Lists.{Lists}
-use Rattle.picks.specs.Marks.{listIn}
 use Rattle.picks.specs.Turns.{pickOf, Picks}
 use Rattle.derive.specs.Marked.{Marks}
 
@@ -31,10 +30,10 @@ module _ (b : Block) (ws : List ℕ) (count : ℕ) (conf excl ids : List ℕ) (a
   ls = listed edition1 t conf excl
 
   same-tree : treeIn b vs count ≡ t
-  same-tree = tree-alike b ws vs count (a .kept .few) (l .apart .alike)
+  same-tree = tree-alike b ws vs count (a .kept .few) (l .apart .before)
 
   pub listed-kept : Kept b vs count
-  listed-kept = kept-alike b ws vs count (a .kept .few) (l .apart .alike) (l .apart .size) (a .kept)
+  listed-kept = kept-alike b ws vs count (a .kept .few) (l .apart .before) (l .apart .size) (a .kept)
 
   node-small : (x : ℕ) → x ∈ ls → x < count
   node-small x m = omega (arith, listed-small edition1 t conf excl (a .kept .formed) (a .once) (λ y k. omega (arith, a .small y k, tree-length b ws count 0)) x m, tree-length b ws count 0)
@@ -50,18 +49,19 @@ module _ (b : Block) (ws : List ℕ) (count : ℕ) (conf excl ids : List ℕ) (a
   pick-copied x = refl
 
   module _ (us : List ℕ) (p : Picks b count n excl ids vs us) where
-    list-same : take n (drop listAt us) ≡ listIn vs n
+    list-same : take n (drop listAt us) ≡ take n (drop listAt vs)
     list-same =
-        ext-getD 0 (take n (drop listAt us)) (listIn vs n) (simp (length-take, length-drop) (omega (arith, p .only .size)))
+        ext-getD 0 (take n (drop listAt us)) (take n (drop listAt vs)) (simp (length-take, length-drop) (omega (arith, p .only .size)))
         (λ i h. let g : i < n = omega (arith, length-take n (drop listAt us)) in
         getD-take n (drop listAt us) i 0 g ∙ getD-drop listAt us i 0 ∙ p .list (listAt + i) (omega arith) (omega (arith, stack-behind, l .short))
         ∙ sym (getD-take n (drop listAt vs) i 0 g ∙ getD-drop listAt vs i 0))
 
     pub marks-joined : Marks b count conf excl ids ws us n
+    unfolding listIn
     marks-joined = record {
-      alike = λ i h. only-alike marks-behind (p .only) i h ∙ l .apart .alike i h;
+      alike = λ i h. only-alike marks-behind (p .only) i h ∙ l .apart .before i h;
       size = p .only .size ∙ l .apart .size;
-      rest = only-drop workWords (omega arith) (p .only) ∙ l .apart .rest;
+      rest = only-drop workWords (omega arith) (p .only) ∙ only-drop workWords (omega arith) (l .apart);
       short = l .short;
       list = list-same ∙ l .list;
       many = l .many;

@@ -4,6 +4,7 @@ use mathlib.Core.List.{List, map}
 use Prim.Native.Nat.{ℕ, _≤_, _<_}
 use native.Mathlib.Omega.{arith}
 use lib.ListN.{length, length-map}
+use Rattle.rules.specs.Ceilings.{workWords}
 use Rattle.rules.specs.Octets.{Bytes, lay}
 use Rattle.rules.specs.Outcome.{gives, refuses, passes}
 use Rattle.rules.specs.Blob.{Block}
@@ -12,7 +13,7 @@ use Rattle.rules.specs.References.{edition1}
 use Rattle.rules.specs.Listing.{listed, pathsBytes}
 use Rattle.rules.specs.Device.{listRoomJudged}
 use Rattle.rules.specs.Laws.Octets.{lay-put}
-use Rattle.rules.specs.Laws.Kept.{tree-alike}
+use Rattle.rules.specs.Laws.Kept.{tree-alike, only-drop}
 use Rattle.rules.specs.Laws.Tabled.{treeIn}
 use Rattle.rules.specs.Laws.Device.{list-short, list-fits}
 use Rattle.order.specs.Starts.{Asked}
@@ -30,7 +31,7 @@ module _ (b : Block) (count : ℕ) (conf excl ws : List ℕ) (a : Asked b ws cou
   ps = pathsOf t conf excl
 
   bytes-are : listBytes (treeIn b vs count) vs n ≡ pathsBytes ps
-  bytes-are = ap₂ (λ (s : Tree) (z : List ℕ). pathsBytes (map (path s) z)) (tree-alike b ws vs count (a .kept .few) (l .apart .alike)) (l .list)
+  bytes-are = ap₂ (λ (s : Tree) (z : List ℕ). pathsBytes (map (path s) z)) (tree-alike b ws vs count (a .kept .few) (l .apart .before)) (l .list)
 
   length-paths : n ≡ length ps
   length-paths = l .many ∙ sym (length-map (listed edition1 t conf excl) (path t))
@@ -46,7 +47,7 @@ module _ (b : Block) (count : ℕ) (conf excl ws : List ℕ) (a : Asked b ws cou
           answer = f ∙ rw e;
           listed = rw e;
           size = l .apart .size;
-          rest = l .apart .rest;
+          rest = only-drop workWords (omega arith) (l .apart);
         }
 
     pub writes-list : needed ≤ length list → (list' : Bytes) → list' ≡ lay list 0 (listBytes (treeIn b vs count) vs n) → (r : Answer) → meaning r ≡ gives (record { paths = n; listLength = needed }) → Writes b count conf excl ws vs list list' r
@@ -56,5 +57,5 @@ module _ (b : Block) (count : ℕ) (conf excl ws : List ℕ) (a : Asked b ws cou
           answer = f ∙ rw (e, ← length-list, ← length-paths);
           listed = p ∙ ap (lay list 0) bytes-are ∙ lay-put list 0 (pathsBytes ps) (omega (arith, length-list)) ∙ rw e;
           size = l .apart .size;
-          rest = l .apart .rest;
+          rest = only-drop workWords (omega arith) (l .apart);
         }

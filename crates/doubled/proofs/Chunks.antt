@@ -10,21 +10,23 @@ use lib.Dec.{eqb, ltb}
 use lib.ListN.{length, getD, set, take, drop, drop-of-length-le}
 use lib.Seq.{ext-getD, take-nil, drop-cons, getD-set-same, getD-set-other}
 use borrow.Author.Tests.{eq-eqb, ne-eqb, lt-ltb, le-ltb, eqb-true, eqb-false}
-use Rattle.rules.specs.Octets.{Bytes, before, same, byteAt}
+use Rattle.rules.specs.Ceilings.{workWords}
+use Rattle.rules.specs.Octets.{Bytes, before, same, byteAt, zeros, lay}
 use Rattle.rules.specs.Events.{Property, stringAt}
 use Rattle.rules.specs.Outcome.{refuses, passes}
 use Rattle.rules.specs.Tree.{named, doubledProps}
 use Rattle.rules.specs.Laws.Tests.{by-test, by-le, never, both-ways, not-passed, or-cases, or-left, or-right}
 use Rattle.rules.specs.Laws.Octets.{same-eq, eq-same}
+use Rattle.rules.specs.Laws.Kept.{Only, only-zeros, zeros-at}
 use Rattle.rules.specs.Laws.Order.{before-irrefl, before-trans, before-total}
-use Rattle.doubled.specs.Sorted.{chunkStart, chunkRoom, keyAt, keyBelow, Ordered, Between, Fresh, Finds, Inserted, Framed, Wiped}
+use Rattle.doubled.specs.Sorted.{chunkStart, chunkRoom, keyAt, keyBelow, Ordered, Between, Fresh, Finds, Inserted, Framed}
 use Rattle.doubled.specs.Passes.{propsAt}
-use Rattle.doubled.specs.Props.{Next, Full, Twin, Builds, Clear}
+use Rattle.doubled.specs.Props.{Full, Twin, Builds, Clear}
 use Rattle.doubled.specs.declared.sorted.Spot.{Spot}
 use Rattle.doubled.specs.declared.sorted.Spot.the-variants.{Taken, Free}
 use Rattle.doubled.specs.declared.props.Built as builts
 use Rattle.doubled.specs.declared.props.Built.the-variants as built
-use Rattle.doubled.proofs.Doubles.{props-none, props-fault, props-go}
+use Rattle.doubled.proofs.Doubles.{Next, judged-none, props-fault, props-go}
 
 -- ---- byte order, byte for byte
 
@@ -177,29 +179,6 @@ moved-done w n at offset i u e l h m =
     wider j (inl p) = inl (omega arith)
     wider j (inr p) = inr p
 
--- ---- words that become zero
-
-pub wiped-none : (w : List ℕ) → Wiped w 0 w
-wiped-none w = record { zeros = λ j h. absurd (omega arith); outside = λ j h. refl }
-
-pub wiped-more : (w : List ℕ) (i : ℕ) (u : List ℕ) → chunkStart + i < length u → Wiped w i u → Wiped w (i + 1) (set u (chunkStart + i) 0)
-wiped-more w i u h m =
-    record {
-      zeros = λ j p. by-test (eqb j i)
-          (λ t. ap (λ (k : ℕ). getD (set u (chunkStart + i) 0) (chunkStart + k) 0) (eqb-true j i t) ∙ getD-set-same u (chunkStart + i) 0 0 h)
-          (λ t. let ne = eqb-false j i t in
-          getD-set-other u (chunkStart + i) (chunkStart + j) 0 0 (λ e. omega arith) ∙ m .zeros j (omega arith));
-      outside = λ j p. getD-set-other u (chunkStart + i) j 0 0 (λ q. apart j p q) ∙ m .outside j (wider j p);
-    }
-  where
-    apart : (j : ℕ) → (j < chunkStart) ⊎ (chunkStart + (i + 1) ≤ j) → j ≡ chunkStart + i → ⊥
-    apart j (inl p) q = omega arith
-    apart j (inr p) q = omega arith
-
-    wider : (j : ℕ) → (j < chunkStart) ⊎ (chunkStart + (i + 1) ≤ j) → (j < chunkStart) ⊎ (chunkStart + i ≤ j)
-    wider j (inl p) = inl p
-    wider j (inr p) = inr (omega arith)
-
 -- ---- a chunk that grows
 
 -- the n names are in order, and are those of the properties seen
@@ -299,13 +278,13 @@ module _ (s strings : Bytes) (from left n here : ℕ) (w : List ℕ) (f : Filled
   pub filled-done : left ≤ n → (p : ℕ) → doubledProps [] (take left (propsAt s strings p from)) ≡ passes
   filled-done h p =
       let e : left - n ≡ 0 = omega arith in
-      f .judged p ∙ ap (λ (k : ℕ). doubledProps (f .seen p) (take k (propsAt s strings p here))) e ∙ props-none (f .seen p)
+      f .judged p ∙ ap (λ (k : ℕ). doubledProps (f .seen p) (take k (propsAt s strings p here))) e ∙ judged-none (f .seen p)
 
   pub filled-none : ((p : ℕ) → propsAt s strings p here ≡ []) → (p : ℕ) → doubledProps [] (take left (propsAt s strings p from)) ≡ passes
   filled-none h p =
       f .judged p
       ∙ ap (doubledProps (f .seen p)) (ap (take (left - n)) (h p) ∙ take-nil (left - n))
-      ∙ props-none (f .seen p)
+      ∙ judged-none (f .seen p)
 
   module _ (l : n < left) (at name next : ℕ) (k : Next s strings here at name next) where
     abbrev q : ℕ → Property
@@ -378,12 +357,18 @@ module _ (s strings : Bytes) (from left : ℕ) (w : List ℕ) (r : builts.Built)
   pub builds-full : (next : ℕ) → r ≡ built.Full next → Full s strings from left next w
   builds-full next e = subst (Builds s strings from left w) e b
 
--- zeros that were used and wiped are as before
-pub wiped-back : (w v u : List ℕ) (n : ℕ) → n ≤ chunkRoom → Clear w → length u ≡ length w → Framed w n v → Wiped v n u → u ≡ w
-wiped-back w v u n m c l f e = ext-getD 0 u w l (λ i h. by-le chunkStart i
+-- zeros that were used and cleared are as before
+pub cleared-back : (w v u : List ℕ) (n : ℕ) → n ≤ chunkRoom → Clear w → length v ≡ length w → Framed w n v → u ≡ lay v chunkStart (zeros n) → u ≡ w
+unfolding workWords
+cleared-back w v u n m c l f e =
+    let o : Only chunkStart (chunkStart + n) v u = rw e (only-zeros v chunkStart n (omega arith) (omega arith)) in
+    ext-getD 0 u w (o .size ∙ l) (λ i h. by-le chunkStart i
     (λ p. by-le (chunkStart + n) i
-    (λ q. e .outside i (inr q) ∙ f .outside i (inr q))
+    (λ q. o .behind i q ∙ f .outside i (inr q))
     (λ q. let k : ℕ = i - chunkStart in
     let x : i ≡ chunkStart + k = omega arith in
-    ap (λ (j : ℕ). getD u j 0) x ∙ e .zeros k (omega arith) ∙ sym (ap (λ (j : ℕ). getD w j 0) x ∙ c .zeros k (omega arith))))
-    (λ p. e .outside i (inl p) ∙ f .outside i (inl p)))
+    ap (λ (j : ℕ). getD u j 0) x
+    ∙ ap (λ (z : List ℕ). getD z (chunkStart + k) 0) e
+    ∙ zeros-at v chunkStart n k (omega (arith, c .room)) (omega arith)
+    ∙ sym (ap (λ (j : ℕ). getD w j 0) x ∙ c .zeros k (omega arith))))
+    (λ p. o .before i p ∙ f .outside i (inl p)))

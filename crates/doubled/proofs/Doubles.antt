@@ -7,80 +7,49 @@ use native.Mathlib.Omega.{arith}
 use native.Mathlib.Numerals.{add-one}
 use lib.ListN.{length, take, drop, length-drop}
 use lib.Seq.{take-all, take-nil}
-use types.Run.{OneOf}
-use denote.Enum.Declared.{tagOf}
-use Rattle.rules.proofs.Token as tokened
 use Rattle.rules.specs.Octets.{Bytes, same, part, wordAt}
 use Rattle.rules.specs.Outcome.{Verdict, gives, refuses, passes, _then_}
 use Rattle.rules.specs.Blob.{blockOf}
-use Rattle.rules.specs.Tokens.{tokenAt}
-use Rattle.rules.specs.Events.{Property, stringAt, saying}
-use Rattle.rules.specs.Tree.{propsOf, named, doubledProps}
-use Rattle.rules.specs.declared.Token.{Token}
-use Rattle.rules.specs.declared.Token.the-variants.{Item}
-use Rattle.rules.specs.declared.Kind.{Kind}
-use Rattle.rules.specs.declared.Kind.the-variants.{Begin, EndNode, Prop, Nop}
+use Rattle.rules.specs.Events.{Property, stringAt}
+use Rattle.rules.specs.Tree.{named, doubledProps}
 use Rattle.rules.specs.Laws.Tests.{by-test, or-nothing, or-right, or-assoc}
 use Rattle.rules.specs.Laws.Tokens.{prop-says}
-use Rattle.rules.specs.Laws.Events.{eventsAt}
+use Rattle.tokens.specs.declared.Property as read
+use Rattle.tokens.specs.declared.Property.the-variants.{Here, Missing}
+use Rattle.tokens.specs.Properties.{propertyAt}
+use Rattle.tokens.proofs.Properties.{here-found, props-none, props-here}
 use Rattle.doubled.specs.Passes.{propsAt}
-use Rattle.doubled.specs.Props.{Next, Stands, firstHit, upToHit, Met, Unmet, MeetsBy}
-use Rattle.doubled.specs.declared.props.Property as read
-use Rattle.doubled.specs.declared.props.Property.the-variants.{Here, Missing}
+use Rattle.doubled.specs.Props.{firstHit, upToHit, Met, Unmet, MeetsBy}
 use Rattle.doubled.specs.declared.props.Hit as hits
 use Rattle.doubled.specs.declared.props.Hit.the-variants as hit
-use Rattle.doubled.proofs.Turns.{events-item, events-stop}
-
--- ---- where a property's name offset stands
-
-pub name-offset : (s : Bytes) (at : ℕ) (r : Token) (kind : Kind) (next len name value : ℕ) → r ≡ tokenAt s at → r ≡ Item kind next → kind ≡ Prop len name value
-    → (name ≡ wordAt s (at + 8)) × (at + 12 ≤ length s)
-name-offset s at r kind next len name value e f g =
-    let p = prop-says s at len name value next (sym e ∙ f ∙ ap (λ (k : Kind). Item k next) g) in
-    let eight : at + 4 + 4 ≡ at + 8 = omega arith in
-    (p .offset ∙ ap (wordAt s) eight, omega (arith, p .ends, p .inside))
 
 -- ---- the next property
 
-module _ (s strings : Bytes) (at : ℕ) (i : at ≤ length s) (r : Token) (e : r ≡ tokenAt s at) (p : ℕ) where
-  pub props-stop : OneOf (1 ∷ 2 ∷ []) (tagOf tokened.the-type r) → propsAt s strings p at ≡ []
-  unfolding propsOf
-  props-stop h = ap propsOf (events-stop (blockOf p s strings) at i r e h)
+pub record Next (s strings : Bytes) (from at name next : ℕ) : Type 0 where
+  pub value : Bytes
+  pub ahead : from ≤ at
+  pub inside : at + 12 ≤ next
+  pub within : next ≤ length s
+  pub offset : wordAt s (at + 8) ≡ name
+  pub list : (place : ℕ) → propsAt s strings place from ≡ record { place = place + at; name = stringAt strings name; value = value } ∷ propsAt s strings place next
 
-  module _ (kind : Kind) (next : ℕ) (f : r ≡ Item kind next) where
-    said : (k : Kind) → kind ≡ k → propsAt s strings p at ≡ propsOf (saying (blockOf p s strings) at (Item k next) (eventsAt (blockOf p s strings) next))
-    said k g =
-        ap propsOf (events-item (blockOf p s strings) at i r e kind next f)
-        ∙ ap (λ (l : Kind). propsOf (saying (blockOf p s strings) at (Item l next) (eventsAt (blockOf p s strings) next))) g
+module _ (s strings : Bytes) (from : ℕ) (i : from ≤ length s) (r : read.Property) (e : r ≡ propertyAt s from) where
+  pub next-here : (at len name value next : ℕ) → r ≡ Here at len name value next → Next s strings from at name next
+  next-here at len name value next f =
+      let k = here-found s from r e at len name value next f in
+      let p = prop-says s at len name value next (k .token) in
+      let eight : at + 8 ≡ at + 4 + 4 = omega arith in
+      record {
+        value = part s value len;
+        ahead = k .ahead;
+        inside = omega (arith, p .ends);
+        within = p .inside;
+        offset = ap (wordAt s) eight ∙ sym (p .offset);
+        list = λ place. props-here (blockOf place s strings) from i r e at len name value next f;
+      }
 
-    pub props-nop : kind ≡ Nop → propsAt s strings p at ≡ propsAt s strings p next
-    props-nop g = said Nop g
-
-    pub props-prop : (len name value : ℕ) → kind ≡ Prop len name value
-        → propsAt s strings p at ≡ record { place = p + at; name = stringAt strings name; value = part s value len } ∷ propsAt s strings p next
-    unfolding propsOf
-    props-prop len name value g = said (Prop len name value) g
-
-    -- the name by an offset that is the same
-    pub props-named : (len name value offset : ℕ) → kind ≡ Prop len name value → offset ≡ name
-        → propsAt s strings p at ≡ record { place = p + at; name = stringAt strings offset; value = part s value len } ∷ propsAt s strings p next
-    props-named len name value offset g h =
-        props-prop len name value g
-        ∙ ap (λ (n : ℕ). record { place = p + at; name = stringAt strings n; value = part s value len } ∷ propsAt s strings p next) (sym h)
-
-    pub props-begin : (len : ℕ) → kind ≡ Begin len → propsAt s strings p at ≡ []
-    unfolding propsOf
-    props-begin len g = said (Begin len) g
-
-    pub props-end : kind ≡ EndNode → propsAt s strings p at ≡ []
-    unfolding propsOf
-    props-end g = said EndNode g
-
-pub stands-here : (s strings : Bytes) (from at name next : ℕ) (r : read.Property) → r ≡ Here at name next → Stands s strings from r → Next s strings from at name next
-stands-here s strings from at name next r e h = subst (Stands s strings from) e h
-
-pub stands-none : (s strings : Bytes) (from : ℕ) (r : read.Property) → r ≡ Missing → Stands s strings from r → (p : ℕ) → propsAt s strings p from ≡ []
-stands-none s strings from r e h = subst (Stands s strings from) e h
+  pub next-none : r ≡ Missing → (place : ℕ) → propsAt s strings place from ≡ []
+  next-none f place = props-none (blockOf place s strings) from i r e f
 
 -- ---- parts of a list
 
@@ -194,9 +163,9 @@ module _ (seen : List Property) (p : Property) (ps : List Property) where
   unfolding doubledProps
   props-go e = rw (doubledProps, e)
 
-pub props-none : (seen : List Property) → doubledProps seen [] ≡ passes
+pub judged-none : (seen : List Property) → doubledProps seen [] ≡ passes
 unfolding doubledProps
-props-none seen = refl
+judged-none seen = refl
 
 pub then-passes : (v : Verdict) → (v then passes) ≡ v
 then-passes (gives u) = refl
@@ -209,12 +178,12 @@ then-refuses (refuses m y) w n x = refl
 -- What is named in xs is at fault; before it, the rest is judged by itself.
 module _ (f : Bytes → Bool) (xs : List Property) (same : (x : Bytes) → named x xs ≡ f x) where
   split : (ys ps : List Property) → doubledProps (ys ++ xs) ps ≡ (doubledProps ys (upToHit f ps) then firstHit f ps)
-  split ys [] = props-none (ys ++ xs) ∙ sym (ap₂ (λ (v w : Verdict). v then w) (ap (doubledProps ys) (none-rest f) ∙ props-none ys) (none-fault f))
+  split ys [] = judged-none (ys ++ xs) ∙ sym (ap₂ (λ (v w : Verdict). v then w) (ap (doubledProps ys) (none-rest f) ∙ judged-none ys) (none-fault f))
   split ys (p ∷ ps) =
       let n : named (p .name) (ys ++ xs) ≡ named (p .name) ys || f (p .name) = named-append (p .name) ys xs ∙ ap (λ (b : Bool). named (p .name) ys || b) (same (p .name)) in
       by-test (f (p .name))
       (λ t. props-fault (ys ++ xs) p ps (n ∙ or-right (named (p .name) ys) (f (p .name)) t)
-      ∙ sym (ap₂ (λ (v w : Verdict). v then w) (ap (doubledProps ys) (hit-rest f p ps t) ∙ props-none ys) (hit-fault f p ps t)))
+      ∙ sym (ap₂ (λ (v w : Verdict). v then w) (ap (doubledProps ys) (hit-rest f p ps t) ∙ judged-none ys) (hit-fault f p ps t)))
       (λ t. let m : named (p .name) (ys ++ xs) ≡ named (p .name) ys = n ∙ ap (λ (b : Bool). named (p .name) ys || b) t ∙ or-nothing (named (p .name) ys) in
       by-test (named (p .name) ys)
       (λ u. props-fault (ys ++ xs) p ps (m ∙ u)
@@ -239,7 +208,7 @@ pub left-all : (ps : List Property) (left : ℕ) → left ≡ length ps → (dou
 left-all ps left e = then-passes _ ∙ ap (doubledProps []) (take-all left ps (omega arith))
 
 pub left-zero : (left : ℕ) (ps : List Property) (v : Verdict) → left ≡ 0 → (doubledProps [] (take left ps) then v) ≡ v
-left-zero left ps v e = ap (λ (w : Verdict). w then v) (ap (doubledProps []) (ap (λ (n : ℕ). take n ps) e) ∙ props-none [])
+left-zero left ps v e = ap (λ (w : Verdict). w then v) (ap (doubledProps []) (ap (λ (n : ℕ). take n ps) e) ∙ judged-none [])
 
 -- a full chunk, and what is behind it: one of that is in the chunk, or none is
 module _ (f : Bytes → Bool) (xs rs : List Property) (left : ℕ) (v a : Verdict)

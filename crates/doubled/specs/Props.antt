@@ -7,28 +7,14 @@ use lib.ListN.{length, take, getD}
 use Rattle.rules.specs.Ceilings.{workWords}
 use Rattle.rules.specs.Octets.{Bytes}
 use Rattle.rules.specs.Outcome.{Verdict, refuses, passes, _then_, first}
-use Rattle.rules.specs.Events.{Property, stringAt}
+use Rattle.rules.specs.Events.{Property}
 use Rattle.rules.specs.Tree.{named, doubledProps}
 use Rattle.doubled.specs.Passes.{propsAt}
 use Rattle.doubled.specs.Sorted.{chunkStart, chunkRoom, keyBelow, Ordered}
 use Rattle.doubled.specs.declared.props.Built as builts
 use Rattle.doubled.specs.declared.props.Built.the-variants as built
-use Rattle.doubled.specs.declared.props.Property.the-variants.{Here, Missing}
-use Rattle.doubled.specs.declared.props.Property as read
 use Rattle.doubled.specs.declared.props.Hit as hits
 use Rattle.doubled.specs.declared.props.Hit.the-variants as hit
-
--- what is read at a place is the first property there
-pub record Next (s strings : Bytes) (from at name next : ℕ) : Type 0 where
-  pub value : Bytes
-  pub ahead : from ≤ at
-  pub inside : at + 4 ≤ next
-  pub within : next ≤ length s
-  pub list : (place : ℕ) → propsAt s strings place from ≡ record { place = place + at; name = stringAt strings name; value = value } ∷ propsAt s strings place next
-
-abbrev pub Stands : (s strings : Bytes) (from : ℕ) → read.Property → Type 0
-Stands s strings from (Here at name next) = Next s strings from at name next
-Stands s strings from Missing = (place : ℕ) → propsAt s strings place from ≡ []
 
 -- ---- properties whose names pass a test
 

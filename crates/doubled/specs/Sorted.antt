@@ -61,8 +61,3 @@ taken n = min n chunkRoom
 -- all words but the first n of the chunk are as they were
 pub record Framed (w : List ℕ) (n : ℕ) (u : List ℕ) : Type 0 where
   pub outside : (i : ℕ) → (i < chunkStart) ⊎ (chunkStart + n ≤ i) → getD u i 0 ≡ getD w i 0
-
--- the first n words of the chunk are zero, and the others are as they were
-pub record Wiped (w : List ℕ) (n : ℕ) (u : List ℕ) : Type 0 where
-  pub zeros : (i : ℕ) → i < n → getD u (chunkStart + i) 0 ≡ 0
-  pub outside : (i : ℕ) → (i < chunkStart) ⊎ (chunkStart + n ≤ i) → getD u i 0 ≡ getD w i 0

@@ -1,30 +1,23 @@
 // The properties of one node, one after the other, and the first of them whose name an earlier one has.
 use crate::Found;
 use crate::sorted::CHUNK_ROOM;
+use crate::sorted::CHUNK_START;
 use crate::sorted::Spot;
 use crate::sorted::find;
 use crate::sorted::insert;
 use crate::sorted::taken;
-use crate::sorted::wipe;
-use rules::Kind;
-use rules::Token;
 use rules::WORK_WORDS;
+use tokens::Property;
 ghost use mathlib.Core.List.{[]};
 ghost use mathlib.Core.Path.{_≡_};
 ghost use Prim.Native.Nat.{ℕ, _≤_};
 ghost use lib.ListN.{length};
+ghost use Rattle.rules.specs.Octets.{Bytes};
 ghost use Rattle.rules.specs.Tree.{doubledProps};
 ghost use Rattle.doubled.specs.Passes.{propsAt, verdict, Inside};
 ghost use Rattle.doubled.specs.Sorted.{chunkRoom, taken, Ordered, Framed};
-ghost use Rattle.doubled.specs.Props.{Stands, Meets, Builds, Clear};
+ghost use Rattle.doubled.specs.Props.{Meets, Builds, Clear};
 ghost use Rattle.rules.specs.Ceilings.{workWords};
-
-// The next property of a node: where it stands, its name's offset, and where what follows it begins.
-pub enum Property {
-    Here { at: usize, name: u32, next: usize },
-    // The node has no further property.
-    Missing,
-}
 
 // The first of some properties whose name is in a chunk: how many stand before it, and where it stands.
 pub enum Hit {
@@ -42,54 +35,21 @@ pub enum Built {
     Full(usize),
 }
 
-// The property that stands at a place or behind NOPs there.
-fn property_at(s: &[u8], strings: &[u8], from: usize) -> Property
-    requires { ⌜ from ≤ length (now s) ⌝ }
-    ensures { λ r. ⌜ Stands (now (s .entry)) (now (strings .entry)) from r ⌝ }
-{
-    let mut at = from;
-    loop {
-        let Token::Item { kind, next } = tokens::token_at(s, at) else {
-            return Property::Missing;
-        };
-        match kind {
-            Kind::Nop => {
-                at = next;
-            }
-            Kind::Prop {
-                len: _,
-                name: _,
-                value: _,
-            } => {
-                return Property::Here {
-                    at,
-                    name: octets::word(s, at + 8),
-                    next,
-                };
-            }
-            Kind::Begin { len: _ } => {
-                return Property::Missing;
-            }
-            Kind::EndNode => {
-                return Property::Missing;
-            }
-        }
-    }
-}
-
 // How many properties stand from a place on.
-fn count(s: &[u8], strings: &[u8], from: usize) -> usize
+fn count(s: &[u8], from: usize) -> usize
     requires { ⌜ from ≤ length (now s) ⌝ }
-    ensures { λ r. ⌜ ((place : ℕ) → r ≡ length (propsAt (now (s .entry)) (now (strings .entry)) place from)) ⌝ }
+    ensures { λ r. ⌜ ((strings : Bytes) (place : ℕ) → r ≡ length (propsAt (now (s .entry)) strings place from)) ⌝ }
 {
     let mut n = 0;
     let mut at = from;
     loop {
         let Property::Here {
             at: _,
+            len: _,
             name: _,
+            value: _,
             next,
-        } = property_at(s, strings, at)
+        } = tokens::property_at(s, at)
         else {
             return n;
         };
@@ -106,11 +66,17 @@ fn lookup(s: &[u8], strings: &[u8], work: &[u32], from: usize, left: usize) -> H
     let mut i = 0;
     let mut here = from;
     while i < left {
-        let Property::Here { at, name, next } = property_at(s, strings, here) else {
+        let Property::Here {
+            at,
+            len: _,
+            name,
+            value: _,
+            next,
+        } = tokens::property_at(s, here)
+        else {
             return Hit::Missing;
         };
-        let offset = name as usize;
-        let wanted = octets::part(strings, offset, octets::nul(strings, offset));
+        let wanted = octets::string_at(strings, name);
         if let Spot::Taken = find(strings, work, CHUNK_ROOM, wanted) {
             return Hit::Here { index: i, at };
         }
@@ -132,15 +98,22 @@ fn build(s: &[u8], strings: &[u8], work: &mut [u32], from: usize, left: usize) -
         if left <= n {
             return Built::Done;
         }
-        let Property::Here { at, name, next } = property_at(s, strings, here) else {
+        let Property::Here {
+            at,
+            len: _,
+            name,
+            value: _,
+            next,
+        } = tokens::property_at(s, here)
+        else {
             return Built::Done;
         };
-        let offset = name as usize;
-        let wanted = octets::part(strings, offset, octets::nul(strings, offset));
+        let wanted = octets::string_at(strings, name);
         let Spot::Free(spot) = find(strings, work, n, wanted) else {
             return Built::Twice(at);
         };
-        insert(work, n, spot, name);
+        // the offset again, as the word that it is
+        insert(work, n, spot, octets::word(s, at + 8));
         n += 1;
         here = next;
     }
@@ -189,8 +162,8 @@ pub fn doubled_props(s: &[u8], strings: &[u8], work: &mut [u32], from: usize) ->
     if work.len() < WORK_WORDS {
         return Found::Nothing;
     }
-    let all = count(s, strings, from);
+    let all = count(s, from);
     let found = chunks(s, strings, work, from, all);
-    wipe(work, taken(all));
+    octets::clear_from(work, CHUNK_START, taken(all));
     found
 }

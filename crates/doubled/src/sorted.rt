@@ -7,10 +7,10 @@ ghost use mathlib.Core.Path.{_≡_};
 ghost use Prim.Native.Nat.{_+_, _≤_, _<_};
 ghost use lib.ListN.{length};
 ghost use Rattle.rules.specs.Octets.{before, same};
-ghost use Rattle.doubled.specs.Sorted.{chunkStart, keyAt, taken, Ordered, Between, Finds, Inserted, Wiped};
+ghost use Rattle.doubled.specs.Sorted.{chunkStart, keyAt, taken, Ordered, Between, Finds, Inserted};
 
 // Where the chunk begins, and how many names it holds at most.
-const CHUNK_START: usize = NODE_WORDS * NODE_CEILING;
+pub const CHUNK_START: usize = NODE_WORDS * NODE_CEILING;
 
 pub const CHUNK_ROOM: usize = WORK_WORDS - CHUNK_START;
 
@@ -46,10 +46,7 @@ fn key_before(strings: &[u8], work: &[u32], i: usize, name: &[u8]) -> bool
     ensures { λ r. ⌜ r ≡ before (keyAt (now (strings .entry)) (now (work .entry)) i) (now (name .entry)) ⌝ }
 {
     let offset = work[CHUNK_START + i] as usize;
-    comes_before(
-        octets::part(strings, offset, octets::nul(strings, offset)),
-        name,
-    )
+    comes_before(octets::string_at(strings, offset), name)
 }
 
 // Whether the name at an index of the chunk is this one.
@@ -58,10 +55,7 @@ fn key_is(strings: &[u8], work: &[u32], i: usize, name: &[u8]) -> bool
     ensures { λ r. ⌜ r ≡ same (now (name .entry)) (keyAt (now (strings .entry)) (now (work .entry)) i) ⌝ }
 {
     let offset = work[CHUNK_START + i] as usize;
-    octets::same(
-        name,
-        octets::part(strings, offset, octets::nul(strings, offset)),
-    )
+    octets::same(name, octets::string_at(strings, offset))
 }
 
 // How many of the n names of the chunk come before this one.
@@ -118,16 +112,4 @@ pub fn taken(n: usize) -> usize
         return n;
     }
     CHUNK_ROOM
-}
-
-// Makes the first n words of the chunk zero.
-pub fn wipe(work: &mut [u32], n: usize)
-    requires { ⌜ chunkStart + n ≤ length (now work) ⌝ }
-    ensures { λ _. ⌜ Wiped (now (work .entry)) n (now (work .exit)) ⌝ }
-{
-    let mut i = 0;
-    while i < n {
-        work[CHUNK_START + i] = 0;
-        i += 1;
-    }
 }

@@ -1,7 +1,6 @@
 // What the copy lays into the guest, token by token: the structure behind the reservations, and the strings from where the
 // structure will end with its END. How long the structure becomes is measured before.
 use crate::Size;
-use crate::names::string_at;
 use crate::walk::Walk;
 use crate::walk::copies;
 use rules::FDT_END;
@@ -86,7 +85,7 @@ pub fn lay(
             }
         }
         Kind::Prop { len, name, value } => {
-            let spelled = string_at(strings, name);
+            let spelled = octets::string_at(strings, name);
             let bytes = octets::part(structure, value, len);
             property(guest, n, done, spelled, bytes)
         }

@@ -1,7 +1,6 @@
 // What the copy takes, token by token, without writing it.
 use crate::names::TABLE_ROOM;
 use crate::names::known;
-use crate::names::string_at;
 use crate::walk::Named;
 use crate::walk::Walk;
 use crate::walk::copies;

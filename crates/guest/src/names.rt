@@ -19,13 +19,6 @@ ghost use Rattle.guest.specs.Measured.{isIn, namesIn, isNamed, lessOne, 
 // How many words there are for names.
 pub const TABLE_ROOM: usize = WORK_WORDS - STACK_AT;
 
-// The name at an offset of a strings block, up to its NUL; past the end it is empty.
-pub fn string_at(strings: &[u8], offset: usize) -> &[u8]
-    ensures { λ r. ⌜ now r ≡ stringAt (now (strings .entry)) offset ⌝ }
-{
-    octets::part(strings, offset, octets::nul(strings, offset))
-}
-
 // Whether two offsets have the same name. The same name mostly has the same offset.
 fn same_name(strings: &[u8], a: usize, b: usize) -> bool
     ensures { λ r. ⌜ r ≡ same (stringAt (now (strings .entry)) a) (stringAt (now (strings .entry)) b) ⌝ }
@@ -33,7 +26,7 @@ fn same_name(strings: &[u8], a: usize, b: usize) -> bool
     if a == b {
         return true;
     }
-    octets::same(string_at(strings, a), string_at(strings, b))
+    octets::same(octets::string_at(strings, a), octets::string_at(strings, b))
 }
 
 // Whether the table of names has the one at this offset.
@@ -57,7 +50,7 @@ fn is_named(strings: &[u8], property: Named, name: &[u8]) -> bool
     ensures { λ r. ⌜ r ≡ isNamed (now (strings .entry)) property (now (name .entry)) ⌝ }
 {
     match property {
-        Named::At(offset) => octets::same(name, string_at(strings, offset)),
+        Named::At(offset) => octets::same(name, octets::string_at(strings, offset)),
         Named::Nothing => false,
     }
 }
@@ -122,5 +115,11 @@ pub fn known(
     if names < TABLE_ROOM {
         return false;
     }
-    earlier(structure, strings, work, props, string_at(strings, offset))
+    earlier(
+        structure,
+        strings,
+        work,
+        props,
+        octets::string_at(strings, offset),
+    )
 }

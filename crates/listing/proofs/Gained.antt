@@ -6,33 +6,32 @@ use Prim.Native.Nat.{ℕ, _+_, _≤_, _<_}
 use native.Mathlib.Omega.{arith}
 use native.Mathlib.Numerals.{add-one}
 use lib.Dec.{eqb}
-use lib.ListN.{length, getD, drop, drop-of-length-le}
+use lib.ListN.{length, getD, take, drop, drop-of-length-le}
 use lib.Seq.{drop-cons, getD-take, getD-drop}
 use borrow.Author.Tests.{eqb-true, eqb-false}
 use Rattle.rules.specs.Ceilings.{nodeCeiling, workWords}
-use Rattle.rules.specs.Octets.{lay}
+use Rattle.rules.specs.Octets.{lay, zeros}
 use Rattle.rules.specs.Blob.{Block}
 use Rattle.rules.specs.Lists.{oneOf, keep, fresh}
 use Rattle.rules.specs.Tree.{Tree, below}
 use Rattle.rules.specs.Listing.{_∈_, gather}
-use Rattle.rules.specs.Space.{marksAt, stackAt}
+use Rattle.rules.specs.Space.{marksAt, stackAt, listIn, stackIn}
 use Rattle.rules.specs.Laws.Tests.{by-test}
-use Rattle.rules.specs.Laws.Octets.{lay-one-same, lay-one-other}
 use Rattle.rules.specs.Laws.Lists.{none, keep-yes, keep-no, mem-at}
 use Rattle.rules.specs.Laws.Tabled.{treeIn}
-use Rattle.rules.specs.Laws.Kept.{tree-alike, list-behind, stack-behind, names-behind, names-inside}
-use Rattle.listing.specs.State.{listIn, stackIn, Apart, Marked, Gains}
+use Rattle.rules.specs.Laws.Kept.{Only, tree-alike, only-none, only-then, only-wide, only-zeros, only-drop, zeros-at, marks-behind, list-behind, stack-behind, names-behind, names-inside}
+use Rattle.listing.specs.State.{Apart, Marked, Gains}
 use Rattle.listing.specs.Given.{belowIn, Gathers}
 use Rattle.listing.proofs.Fresh.{fresh-none, fresh-append, gather-none, gather-turn}
-use Rattle.listing.proofs.Parts.{apart-refl, apart-trans, apart-mark, stack-mark, stack-length}
+use Rattle.listing.proofs.Parts.{stack-length}
 
 pub gains-refl : (count : ℕ) (ws : List ℕ) (n : ℕ) (ts : List ℕ) → Marked ws count n → Gains count ws n ts ws n ts
-gains-refl count ws n ts m = record { apart = apart-refl ws; marked = m; list = refl; stack = λ s. refl }
+gains-refl count ws n ts m = record { apart = only-none ws; marked = m; list = refl; stack = λ s. refl }
 
 pub gains-trans : {count : ℕ} {ws : List ℕ} {n : ℕ} {all vs : List ℕ} {m : ℕ} {mid us : List ℕ} {p : ℕ} {left : List ℕ}
     → Gains count ws n all vs m mid → Gains count vs m mid us p left → Gains count ws n all us p left
 gains-trans a b = record {
-  apart = apart-trans (a .apart) (b .apart);
+  apart = only-then (a .apart) (b .apart);
   marked = b .marked;
   list = b .list ∙ a .list;
   stack = λ s. b .stack s ∙ a .stack s;
@@ -63,48 +62,26 @@ pub no-list : (ws : List ℕ) → listIn ws 0 ≡ []
 unfolding listIn
 no-list ws = refl
 
-pub record Clearing (ws vs : List ℕ) (i : ℕ) : Type 0 where
-  pub apart : Apart ws vs
-  pub stack : (s : ℕ) → stackIn vs s ≡ stackIn ws s
-  pub zeros : (j : ℕ) → j < i → getD vs (marksAt + j) 0 ≡ 0
-
-pub clearing-none : (ws : List ℕ) → Clearing ws ws 0
-clearing-none ws = record { apart = apart-refl ws; stack = λ s. refl; zeros = λ j h. absurd (omega arith) }
-
-module _ (ws vs : List ℕ) (room : workWords ≤ length ws) (i : ℕ) (h : i < nodeCeiling) (c : Clearing ws vs i) where
-  roomy : workWords ≤ length vs
-  roomy = omega (arith, room, c .apart .size)
-
-  zero-upto : (j : ℕ) → j < i + 1 → getD (lay vs (marksAt + i) (0 ∷ [])) (marksAt + j) 0 ≡ 0
-  zero-upto j l = by-test (eqb j i)
-      (λ e. let q : j ≡ i = eqb-true j i e in
-      ap (λ (k : ℕ). getD (lay vs (marksAt + i) (0 ∷ [])) (marksAt + k) 0) q
-      ∙ lay-one-same vs (marksAt + i) 0 0 (omega (arith, roomy, list-behind, stack-behind, names-behind, names-inside)))
-      (λ e. let ne : j ≡ i → ⊥ = eqb-false j i e in
-      lay-one-other vs (marksAt + i) 0 0 (marksAt + j) (λ q. ne (omega arith)) ∙ c .zeros j (omega arith))
-
-  pub clearing-more : Clearing ws (lay vs (marksAt + i) (0 ∷ [])) (i + 1)
-  clearing-more = record {
-    apart = apart-trans (c .apart) (apart-mark vs roomy i 0 h);
-    stack = λ s. stack-mark vs roomy i 0 h s ∙ c .stack s;
-    zeros = zero-upto;
-  }
-
-pub cleared : (count : ℕ) (ws vs : List ℕ) (i : ℕ) → count ≤ nodeCeiling → workWords ≤ length ws → count ≤ i → Clearing ws vs i → Gains count ws 0 [] vs 0 []
-unfolding oneOf
-cleared count ws vs i few room h c = record {
-  apart = c .apart;
-  marked = record {
-    few = few;
-    room = omega (arith, room, c .apart .size);
-    short = omega arith;
-    once = rw (no-list vs) none;
-    small = λ x m. absurd (List·Memᴰ·not-nil (rw (no-list vs) at m));
-    marks = λ j l. c .zeros j (omega arith) ∙ rw (no-list vs);
-  };
-  list = rw (no-list vs, no-list ws);
-  stack = c .stack;
-}
+pub cleared : (count : ℕ) (ws : List ℕ) → count ≤ nodeCeiling → workWords ≤ length ws → Gains count ws 0 [] (lay ws marksAt (zeros count)) 0 []
+unfolding oneOf stackIn
+cleared count ws few room =
+    let vs : List ℕ = lay ws marksAt (zeros count) in
+    let fits : marksAt + count ≤ stackAt = omega (arith, few, list-behind, stack-behind) in
+    let inside : stackAt ≤ workWords = omega (arith, names-behind, names-inside) in
+    let o : Only marksAt stackAt ws vs = only-zeros ws marksAt count (omega arith) fits in
+    record {
+      apart = only-wide marks-behind inside o;
+      marked = record {
+        few = few;
+        room = omega (arith, room, o .size);
+        short = omega arith;
+        once = rw (no-list vs) none;
+        small = λ x m. absurd (List·Memᴰ·not-nil (rw (no-list vs) at m));
+        marks = λ j l. zeros-at ws marksAt count j (omega (arith, fits, inside)) l ∙ rw (no-list vs);
+      };
+      list = rw (no-list vs, no-list ws);
+      stack = λ s. ap (take s) (only-drop stackAt (omega arith) o);
+    }
 
 -- ---- those below a node
 
@@ -146,7 +123,7 @@ module _ (count : ℕ) (ws : List ℕ) (n s p : ℕ) (low : s ≤ nodeCeiling) (
         → Gains count vs m (keep (below (treeIn b vs count) p) (x ∷ [])) us q []
         → Gains count ws n (belowIn b ws count s p) us q (belowFrom b ws count s p (k + 1))
     below-turn h x e us q d =
-        let t : treeIn b vs count ≡ treeIn b ws count = tree-alike b ws vs count (a .marked .few) (a .apart .alike) in
+        let t : treeIn b vs count ≡ treeIn b ws count = tree-alike b ws vs count (a .marked .few) (a .apart .before) in
         let y : x ≡ getD (stackIn ws s) k 0 = start-here room (a .stack s) h x e in
         let f : ℕ → Bool = below (treeIn b ws count) p in
         let g : belowFrom b ws count s p k ≡ keep f (getD (stackIn ws s) k 0 ∷ []) ++ keep f (drop (k + 1) (stackIn ws s)) =
@@ -161,12 +138,12 @@ module _ (count : ℕ) (ws : List ℕ) (n s p : ℕ) (low : s ≤ nodeCeiling) (
 -- ---- each with those below it
 
 pub gathers-refl : (count : ℕ) (ws : List ℕ) (n : ℕ) (of : ℕ → List ℕ) (cs : List ℕ) → Marked ws count n → Gathers count ws n of cs ws n cs
-gathers-refl count ws n of cs m = record { apart = apart-refl ws; marked = m; list = refl; stack = λ s. refl }
+gathers-refl count ws n of cs m = record { apart = only-none ws; marked = m; list = refl; stack = λ s. refl }
 
 pub below-alike : (b : Block) (ws vs : List ℕ) (count s p : ℕ) → count ≤ nodeCeiling → Apart ws vs → stackIn vs s ≡ stackIn ws s
     → belowIn b vs count s p ≡ belowIn b ws count s p
 below-alike b ws vs count s p few a e =
-    ap (λ (t : Tree). keep (below t p) (stackIn vs s)) (tree-alike b ws vs count few (a .alike)) ∙ ap (keep (below (treeIn b ws count) p)) e
+    ap (λ (t : Tree). keep (below t p) (stackIn vs s)) (tree-alike b ws vs count few (a .before)) ∙ ap (keep (below (treeIn b ws count) p)) e
 
 module _ (count : ℕ) (ws : List ℕ) (n : ℕ) (of : ℕ → List ℕ) (all vs : List ℕ) (m : ℕ) (cs : List ℕ) (i : ℕ) (a : Gathers count ws n of all vs m (drop i cs)) where
   pub gathers-each : i < length cs → (us : List ℕ) (p : ℕ) → Gains count vs m (of (getD cs i 0)) us p [] → Gathers count ws n of all us p (drop (i + 1) cs)
@@ -174,7 +151,7 @@ module _ (count : ℕ) (ws : List ℕ) (n : ℕ) (of : ℕ → List ℕ) (all vs
       let c : ℕ = getD cs i 0 in
       let l : List ℕ = listIn vs m in
       record {
-        apart = apart-trans (a .apart) (d .apart);
+        apart = only-then (a .apart) (d .apart);
         marked = d .marked;
         list =
             ap (λ (k : List ℕ). k ++ gather of k (drop (i + 1) cs)) (gains-list count vs m (of c) us p d)

@@ -15,22 +15,22 @@ use Rattle.rules.specs.Lists.{keep, sort, fresh}
 use Rattle.rules.specs.Tree.{Tree, frame, below, path}
 use Rattle.rules.specs.References.{edition1, targets}
 use Rattle.rules.specs.Listing.{_∈_, nodesBelow, gather, givenNodes, starts, work, found, reachedList, within, listed}
-use Rattle.rules.specs.Space.{stackAt}
-use Rattle.rules.specs.Laws.Octets.{length-lay, lay-put, part-put, drop-put}
+use Rattle.rules.specs.Space.{stackAt, listIn, stackIn}
+use Rattle.rules.specs.Laws.Octets.{length-lay, lay-put, part-put}
 use Rattle.rules.specs.Laws.Lists.{Distinct, none, more, mem-oneOf, not-oneOf, fresh-known, fresh-new}
 use Rattle.rules.specs.Laws.Tabled.{treeIn, tree-length}
 use Rattle.rules.specs.Laws.Order.{insert-length}
 use Rattle.rules.specs.Laws.Listing.{starts-of, of-starts}
 use Rattle.rules.specs.Laws.Starts.{start-small, below-starts}
-use Rattle.rules.specs.Laws.Kept.{Kept, lay-alike, tree-alike, marks-behind, list-behind, stack-behind, names-behind, names-inside}
+use Rattle.rules.specs.Laws.Kept.{Kept, lay-alike, lay-behind, tree-alike, only-then, only-kept, marks-behind, list-behind, stack-behind, names-behind, names-inside}
 use Rattle.order.specs.Starts.{Asked, Started}
-use Rattle.listing.specs.State.{listIn, stackIn, Apart, Piled, Gains}
+use Rattle.listing.specs.State.{Apart, Piled, Gains}
 use Rattle.listing.specs.Given.{belowIn, withBelow, Gathers}
 use Rattle.listing.specs.Walk.{Walked}
 use Rattle.listing.specs.Sift.{spared, Sifted}
 use Rattle.listing.specs.Lists.{Reaches, Lists}
 use Rattle.listing.proofs.Fresh.{Alike, alike-by, fresh-none, work-same}
-use Rattle.listing.proofs.Parts.{apart-trans, apart-kept, list-length}
+use Rattle.listing.proofs.Parts.{list-length}
 use Rattle.listing.proofs.Gained.{no-list, gathers-list}
 
 -- ---- lists
@@ -89,14 +89,9 @@ module _ (b : Block) (ws : List ℕ) (count : ℕ) (conf : List ℕ) (q : Asked 
 
     pub start-apart : Apart ws ws₁
     start-apart = record {
-      alike = rw (started .laid) (lay-alike ws stackAt first (omega (arith, marks-behind, list-behind, stack-behind)));
       size = ap length (started .laid) ∙ length-lay ws stackAt first;
-      rest =
-          let e : workWords ≡ stackAt + length first + (workWords - (stackAt + length first)) = omega (arith, fits) in
-          ap (drop workWords) laid
-          ∙ ap (λ (k : ℕ). drop k (put ws stackAt first)) e
-          ∙ drop-put ws stackAt first (workWords - (stackAt + length first)) (omega (arith, fits, q .kept .room))
-          ∙ ap (λ (k : ℕ). drop k ws) (sym e);
+      before = rw (started .laid) (lay-alike ws stackAt first (omega (arith, marks-behind, list-behind, stack-behind)));
+      behind = λ i h. rw (started .laid) (lay-behind ws stackAt first 0 i (omega (arith, fits)));
     }
 
     start-stack : stackIn ws₁ s ≡ first
@@ -143,14 +138,14 @@ module _ (b : Block) (ws : List ℕ) (count : ℕ) (conf : List ℕ) (q : Asked 
         conf-stack = g b .stack s ∙ z .stack s ∙ start-stack
 
         conf-apart : Apart ws ws₃
-        conf-apart = apart-trans start-apart (apart-trans (z .apart) (g b .apart))
+        conf-apart = only-then start-apart (only-then (z .apart) (g b .apart))
 
         -- ---- the given nodes
 
         module _ (ws₄ : List ℕ) (n₄ : ℕ) (h : (a : Block) → Gathers count ws₃ n₃ (withBelow a ws₃ count s) conf ws₄ n₄ []) where
           below-one : (c : ℕ) → c ∈ conf → belowIn b ws₃ count s c ≡ nodesBelow (frame tree) c
           below-one c m =
-              ap (λ (t : Tree). keep (below t c) (stackIn ws₃ s)) (tree-alike b ws ws₃ count (q .kept .few) (conf-apart .alike))
+              ap (λ (t : Tree). keep (below t c) (stackIn ws₃ s)) (tree-alike b ws ws₃ count (q .kept .few) (conf-apart .before))
               ∙ ap (keep (below tree c)) conf-stack
               ∙ sym (below-starts tree (q .kept .formed) conf (q .once) small c m)
 
@@ -165,7 +160,7 @@ module _ (b : Block) (ws : List ℕ) (count : ℕ) (conf : List ℕ) (q : Asked 
           given-stack = h b .stack s ∙ conf-stack
 
           given-apart : Apart ws ws₄
-          given-apart = apart-trans conf-apart (h b .apart)
+          given-apart = only-then conf-apart (h b .apart)
 
           given-many : n₄ ≡ s
           unfolding starts
@@ -176,7 +171,7 @@ module _ (b : Block) (ws : List ℕ) (count : ℕ) (conf : List ℕ) (q : Asked 
               ∙ sym (started .many)
 
           pub given-kept : Kept b ws₄ count
-          given-kept = apart-kept b ws ws₄ count given-apart (q .kept)
+          given-kept = only-kept b count (omega arith) given-apart (q .kept)
 
           pub given-piled : Piled ws₄ count n₄ s
           given-piled = record {
@@ -200,7 +195,7 @@ module _ (b : Block) (ws : List ℕ) (count : ℕ) (conf : List ℕ) (q : Asked 
                 let k : count + s - n₄ ≡ length tree = omega (arith, given-many, tree-length b ws count 0) in
                 w .list
                 ∙ ap (λ (t : Tree). listIn ws₄ n₄ ++ work (targets edition1 t) (count + s - n₄) (reverse (stackIn ws₄ s)) (listIn ws₄ n₄))
-                (tree-alike b ws ws₄ count (q .kept .few) (given-apart .alike))
+                (tree-alike b ws ws₄ count (q .kept .few) (given-apart .before))
                 ∙ ap (λ (l : List ℕ). l ++ work (targets edition1 tree) (count + s - n₄) (reverse (stackIn ws₄ s)) l) given-list
                 ∙ ap (λ (l : List ℕ). given ++ work (targets edition1 tree) (count + s - n₄) (reverse l) given) given-stack
                 ∙ ap (λ (j : ℕ). given ++ work (targets edition1 tree) j (reverse first) given) k
@@ -212,7 +207,7 @@ module _ (b : Block) (ws : List ℕ) (count : ℕ) (conf : List ℕ) (q : Asked 
             pub reaches : Reaches b ws count conf ws₅ n₅
             unfolding listIn
             reaches = record {
-              apart = apart-trans given-apart (w .apart);
+              apart = only-then given-apart (w .apart);
               short = reached-short;
               many = sym (list-length ws₅ (w .marked .room) n₅ reached-short) ∙ ap length reached-list;
               list = reached-list;
@@ -226,7 +221,7 @@ module _ (b : Block) (ws : List ℕ) (count : ℕ) (conf excl : List ℕ) (k : K
   unfolding listed listIn
   listed-list =
       s .list
-      ∙ ap (λ (t : Tree). keep (λ (x : ℕ). not (eqb x 0) && not (within (frame t) excl x)) (listIn vs n)) (tree-alike b ws vs count (k .few) (r .apart .alike))
+      ∙ ap (λ (t : Tree). keep (λ (x : ℕ). not (eqb x 0) && not (within (frame t) excl x)) (listIn vs n)) (tree-alike b ws vs count (k .few) (r .apart .before))
       ∙ ap (keep (spared b ws count excl)) (r .list)
 
   short : m ≤ nodeCeiling
@@ -235,7 +230,7 @@ module _ (b : Block) (ws : List ℕ) (count : ℕ) (conf excl : List ℕ) (k : K
   pub lists : Lists b ws count conf excl us m
   unfolding listIn
   lists = record {
-    apart = apart-trans (r .apart) (s .apart);
+    apart = only-then (r .apart) (s .apart);
     short = short;
     many = sym (list-length us (omega (arith, k .room, r .apart .size, s .apart .size)) m short) ∙ ap length listed-list;
     list = listed-list;

@@ -12,14 +12,14 @@ use Rattle.rules.specs.Ceilings.{nodeCeiling, workWords}
 use Rattle.rules.specs.Octets.{lay}
 use Rattle.rules.specs.Lists.{oneOf, fresh}
 use Rattle.rules.specs.Listing.{_∈_}
-use Rattle.rules.specs.Space.{marksAt, stackAt}
+use Rattle.rules.specs.Space.{marksAt, stackAt, listIn, stackIn}
 use Rattle.rules.specs.Laws.Tests.{by-test, both-ways}
 use Rattle.rules.specs.Laws.Octets.{length-lay, lay-one-same, lay-one-other}
 use Rattle.rules.specs.Laws.Lists.{Distinct, none, more, distinct-append, distinct-below, oneOf-mem, mem-oneOf, oneOf-not, fresh-known}
-use Rattle.rules.specs.Laws.Kept.{list-behind, stack-behind, names-behind, names-inside}
-use Rattle.listing.specs.State.{listIn, stackIn, entered, mark, Apart, Marked, Piled, Gains, Stacks}
+use Rattle.rules.specs.Laws.Kept.{list-behind, stack-behind, names-behind, names-inside, only-none, only-then}
+use Rattle.listing.specs.State.{entered, mark, Apart, Marked, Piled, Gains, Stacks}
 use Rattle.listing.proofs.Fresh.{fresh-none, fresh-last, fresh-append}
-use Rattle.listing.proofs.Parts.{apart-refl, apart-trans, list-length, list-mark, stack-mark, apart-mark, list-list, stack-list, marks-list, apart-list, list-stack, stack-stack, marks-stack, apart-stack}
+use Rattle.listing.proofs.Parts.{list-length, list-mark, stack-mark, apart-mark, list-list, stack-list, marks-list, apart-list, list-stack, stack-stack, marks-stack, apart-stack}
 
 -- ---- one more number
 
@@ -94,7 +94,7 @@ module _ (ws : List ℕ) (count n : ℕ) (m : Marked ws count n) where
 
     entered-apart : Apart ws (entered ws n x)
     unfolding entered
-    entered-apart = apart-trans (apart-mark ws (m .room) x 1 inside) (apart-list first roomy n x below)
+    entered-apart = only-then (apart-mark ws (m .room) x 1 inside) (apart-list first roomy n x below)
 
     entered-marks : (i : ℕ) → i < count → getD (entered ws n x) (marksAt + i) 0 ≡ mark (oneOf i (there ++ (x ∷ [])))
     unfolding entered
@@ -150,7 +150,7 @@ module _ (ws : List ℕ) (count n : ℕ) (m : Marked ws count n) where
       pushed-stack = stack-stack (entered ws n x) space s x low ∙ ap (λ (l : List ℕ). l ++ (x ∷ [])) (entered-stack s)
 
       pushed-apart : Apart ws pushed
-      pushed-apart = apart-trans entered-apart (apart-stack (entered ws n x) space s x low)
+      pushed-apart = only-then entered-apart (apart-stack (entered ws n x) space s x low)
 
       pushed-marked : Marked pushed count (n + 1)
       pushed-marked = record {
@@ -181,7 +181,7 @@ module _ (ws : List ℕ) (count n : ℕ) (m : Marked ws count n) where
   -- one that is known
   pub gains-known : (x : ℕ) (ts : List ℕ) → oneOf x there ≡ true → Gains count ws n (x ∷ ts) ws n ts
   gains-known x ts e = record {
-    apart = apart-refl ws;
+    apart = only-none ws;
     marked = m;
     list = ap (λ (l : List ℕ). there ++ l) (sym (fresh-known there ts x e));
     stack = λ s. refl;
@@ -191,7 +191,7 @@ module _ (ws : List ℕ) (count n : ℕ) (m : Marked ws count n) where
 
 pub stacks-known : (ws : List ℕ) (count n s x : ℕ) (ts : List ℕ) → Piled ws count n s → oneOf x (listIn ws n) ≡ true → Stacks count ws n s (x ∷ ts) ws n s ts
 stacks-known ws count n s x ts p e = record {
-  apart = apart-refl ws;
+  apart = only-none ws;
   piled = p;
   list = ap (λ (l : List ℕ). listIn ws n ++ l) (sym (fresh-known (listIn ws n) ts x e));
   stack = ap (λ (l : List ℕ). stackIn ws s ++ l) (sym (fresh-known (listIn ws n) ts x e));
@@ -199,12 +199,12 @@ stacks-known ws count n s x ts p e = record {
 }
 
 pub stacks-refl : (ws : List ℕ) (count n s : ℕ) (ts : List ℕ) → Piled ws count n s → Stacks count ws n s ts ws n s ts
-stacks-refl ws count n s ts p = record { apart = apart-refl ws; piled = p; list = refl; stack = refl; level = omega arith }
+stacks-refl ws count n s ts p = record { apart = only-none ws; piled = p; list = refl; stack = refl; level = omega arith }
 
 pub stacks-trans : {count : ℕ} {ws : List ℕ} {n s : ℕ} {all vs : List ℕ} {m k : ℕ} {mid us : List ℕ} {p q : ℕ} {left : List ℕ}
     → Stacks count ws n s all vs m k mid → Stacks count vs m k mid us p q left → Stacks count ws n s all us p q left
 stacks-trans a b = record {
-  apart = apart-trans (a .apart) (b .apart);
+  apart = only-then (a .apart) (b .apart);
   piled = b .piled;
   list = b .list ∙ a .list;
   stack = b .stack ∙ a .stack;

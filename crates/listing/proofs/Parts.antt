@@ -1,5 +1,5 @@
 -- A word put into the work space behind the node table: what it leaves of the list, of the stack and of the marks.
-use mathlib.Core.Path.{_≡_, refl, ap, _∙_}
+use mathlib.Core.Path.{_≡_, ap, _∙_}
 use mathlib.Core.List.{List, [], _∷_, _++_}
 use Prim.Native.Nat.{ℕ, _+_, _-_, _≤_, _<_}
 use native.Mathlib.Omega.{arith}
@@ -8,11 +8,10 @@ use lib.ListN.{length, getD, take, drop, set, length-drop}
 use lib.Seq.{drop-set-lt, drop-set-add, take-set-le, take-suc-set, take-suc, getD-drop, length-take-le}
 use Rattle.rules.specs.Ceilings.{nodeCeiling, workWords}
 use Rattle.rules.specs.Octets.{lay}
-use Rattle.rules.specs.Space.{tableWords, marksAt, listAt, stackAt}
-use Rattle.rules.specs.Laws.Octets.{length-lay, lay-one, lay-one-other}
-use Rattle.rules.specs.Laws.Kept.{lay-alike, kept-alike, Kept, marks-behind, list-behind, stack-behind, names-behind, names-inside}
-use Rattle.rules.specs.Blob.{Block}
-use Rattle.listing.specs.State.{listIn, stackIn, Apart}
+use Rattle.rules.specs.Space.{marksAt, listAt, stackAt, listIn, stackIn}
+use Rattle.rules.specs.Laws.Octets.{lay-one, lay-one-other}
+use Rattle.rules.specs.Laws.Kept.{only-one, marks-behind, list-behind, stack-behind, names-behind, names-inside}
+use Rattle.listing.specs.State.{Apart}
 
 -- ---- any part
 
@@ -34,24 +33,6 @@ part-end ws p n x h =
     ∙ ap (take (n + 1)) (drop-set-add p ws n x)
     ∙ ap (λ (k : ℕ). take k (set (drop p ws) n x)) (add-one n)
     ∙ take-suc-set (drop p ws) n x (simp length-drop (omega arith))
-
--- ---- what is written apart
-
-pub apart-refl : (ws : List ℕ) → Apart ws ws
-apart-refl ws = record { alike = λ i h. refl; size = refl; rest = refl }
-
-pub apart-trans : {us vs ws : List ℕ} → Apart us vs → Apart vs ws → Apart us ws
-apart-trans a b = record { alike = λ i h. b .alike i h ∙ a .alike i h; size = b .size ∙ a .size; rest = b .rest ∙ a .rest }
-
-pub apart-lay : (ws : List ℕ) (at x : ℕ) → tableWords ≤ at → at < workWords → workWords ≤ length ws → Apart ws (lay ws at (x ∷ []))
-apart-lay ws at x h g l = record {
-  alike = lay-alike ws at (x ∷ []) h;
-  size = length-lay ws at (x ∷ []);
-  rest = ap (drop workWords) (lay-one ws at x (omega arith)) ∙ drop-set-lt workWords ws at x g;
-}
-
-pub apart-kept : (b : Block) (ws vs : List ℕ) (count : ℕ) → Apart ws vs → Kept b ws count → Kept b vs count
-apart-kept b ws vs count a k = kept-alike b ws vs count (k .few) (a .alike) (a .size) k
 
 -- ---- the list and the stack
 
@@ -82,7 +63,7 @@ module _ (ws : List ℕ) (room : workWords ≤ length ws) where
     stack-mark s = part-behind ws (marksAt + i) x (omega (arith, list-behind, stack-behind, names-behind, names-inside)) stackAt s (omega (arith, list-behind, stack-behind))
 
     pub apart-mark : Apart ws (lay ws (marksAt + i) (x ∷ []))
-    apart-mark = apart-lay ws (marksAt + i) x (omega (arith, marks-behind)) (omega (arith, list-behind, stack-behind, names-behind, names-inside)) room
+    apart-mark = only-one ws (marksAt + i) x (omega (arith, marks-behind)) (omega (arith, list-behind, stack-behind, names-behind, names-inside))
 
   -- a node listed
   module _ (n x : ℕ) (h : n < nodeCeiling) where
@@ -98,7 +79,7 @@ module _ (ws : List ℕ) (room : workWords ≤ length ws) where
     marks-list i l = lay-one-other ws (listAt + n) x 0 (marksAt + i) (λ e. omega (arith, list-behind))
 
     pub apart-list : Apart ws (lay ws (listAt + n) (x ∷ []))
-    apart-list = apart-lay ws (listAt + n) x (omega (arith, marks-behind, list-behind)) (omega (arith, stack-behind, names-behind, names-inside)) room
+    apart-list = only-one ws (listAt + n) x (omega (arith, marks-behind, list-behind)) (omega (arith, stack-behind, names-behind, names-inside))
 
   -- a node put on the stack
   module _ (s x : ℕ) (h : s < nodeCeiling) where
@@ -114,4 +95,4 @@ module _ (ws : List ℕ) (room : workWords ≤ length ws) where
     marks-stack i l = lay-one-other ws (stackAt + s) x 0 (marksAt + i) (λ e. omega (arith, list-behind, stack-behind))
 
     pub apart-stack : Apart ws (lay ws (stackAt + s) (x ∷ []))
-    apart-stack = apart-lay ws (stackAt + s) x (omega (arith, marks-behind, list-behind, stack-behind)) (omega (arith, names-behind, names-inside)) room
+    apart-stack = only-one ws (stackAt + s) x (omega (arith, marks-behind, list-behind, stack-behind)) (omega (arith, names-behind, names-inside))

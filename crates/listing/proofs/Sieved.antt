@@ -15,14 +15,13 @@ use Rattle.rules.specs.Blob.{Block}
 use Rattle.rules.specs.Lists.{keep}
 use Rattle.rules.specs.Tree.{Tree, frame}
 use Rattle.rules.specs.Listing.{within}
-use Rattle.rules.specs.Space.{listAt}
+use Rattle.rules.specs.Space.{listAt, listIn}
 use Rattle.rules.specs.Laws.Octets.{lay-one-other}
 use Rattle.rules.specs.Laws.Lists.{keep-yes, keep-no}
 use Rattle.rules.specs.Laws.Tabled.{treeIn}
-use Rattle.rules.specs.Laws.Kept.{tree-alike}
-use Rattle.listing.specs.State.{listIn}
+use Rattle.rules.specs.Laws.Kept.{tree-alike, only-none, only-then}
 use Rattle.listing.specs.Sift.{spared, Sifts, Sifted}
-use Rattle.listing.proofs.Parts.{apart-refl, apart-trans, list-length, list-list, apart-list}
+use Rattle.listing.proofs.Parts.{list-length, list-list, apart-list}
 
 -- ---- the test
 
@@ -51,7 +50,7 @@ module _ (b : Block) (ws : List ℕ) (count : ℕ) (excl : List ℕ) (n : ℕ) (
   sifts-none few room = record {
     few = few;
     room = room;
-    apart = apart-refl ws;
+    apart = only-none ws;
     upto = omega arith;
     list = rw (no-list ws);
     ahead = λ k h. refl;
@@ -69,7 +68,7 @@ module _ (b : Block) (ws : List ℕ) (count : ℕ) (excl : List ℕ) (n : ℕ) (
           ∙ ap (λ (k : ℕ). x ∷ drop k (listIn ws n)) (sym (add-one i))
 
       moved : spared b vs count excl x ≡ f x
-      moved = ap (λ (t : Tree). not (eqb x 0) && not (within (frame t) excl x)) (tree-alike b ws vs count (s .few) (s .apart .alike))
+      moved = ap (λ (t : Tree). not (eqb x 0) && not (within (frame t) excl x)) (tree-alike b ws vs count (s .few) (s .apart .before))
 
       pub sifts-out : spared b vs count excl x ≡ false → Sifts b ws count excl n vs (i + 1) j
       sifts-out g = record {
@@ -91,7 +90,7 @@ module _ (b : Block) (ws : List ℕ) (count : ℕ) (excl : List ℕ) (n : ℕ) (
       sifts-in g = record {
         few = s .few;
         room = s .room;
-        apart = apart-trans (s .apart) (apart-list vs roomy j x below);
+        apart = only-then (s .apart) (apart-list vs roomy j x below);
         upto = omega (arith, s .upto);
         list =
             ap (λ (l : List ℕ). l ++ keep f (drop (i + 1) (listIn ws n))) (list-list vs roomy j x below)

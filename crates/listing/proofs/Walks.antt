@@ -8,13 +8,13 @@ use Rattle.rules.specs.Blob.{Block}
 use Rattle.rules.specs.Lists.{fresh}
 use Rattle.rules.specs.References.{edition1, targets}
 use Rattle.rules.specs.Listing.{work}
-use Rattle.rules.specs.Space.{stackAt}
+use Rattle.rules.specs.Space.{stackAt, listIn, stackIn}
 use Rattle.rules.specs.Laws.Tabled.{treeIn}
-use Rattle.rules.specs.Laws.Kept.{tree-alike}
-use Rattle.listing.specs.State.{listIn, stackIn, Apart, Piled, Stacks}
+use Rattle.rules.specs.Laws.Kept.{tree-alike, only-then}
+use Rattle.listing.specs.State.{Apart, Piled, Stacks}
 use Rattle.listing.specs.Walk.{workFrom, Walked}
 use Rattle.listing.proofs.Fresh.{work-none, work-turn}
-use Rattle.listing.proofs.Parts.{apart-trans, stack-last}
+use Rattle.listing.proofs.Parts.{stack-last}
 use Rattle.listing.proofs.Notes.{stacks-list, stacks-stack}
 
 -- the last of the stack is taken
@@ -44,7 +44,7 @@ module _ (ws : List ℕ) (count n s : ℕ) (p : Piled ws count n s) (some : 0 < 
     of i = targets edition1 (treeIn b ts count) i
 
     moved : Stacks count ws n (s - 1) (of top) vs m k []
-    moved = rw (tree-alike b ts ws count (p .marked .few) (a .alike), e) at d
+    moved = rw (tree-alike b ts ws count (p .marked .few) (a .before), e) at d
 
     pub walk-turn : workFrom b ts vs count m k ≡ workFrom b ts ws count n s
     walk-turn =
@@ -60,7 +60,7 @@ module _ (ws : List ℕ) (count n s : ℕ) (p : Piled ws count n s) (some : 0 < 
         ∙ ap (λ (j : ℕ). listIn ws n ++ work of j (reverse (stackIn ws s)) (listIn ws n)) (sym g)
 
     pub walk-apart : Apart ts vs
-    walk-apart = apart-trans a (d .apart)
+    walk-apart = only-then a (d .apart)
 
     pub walk-less : count + k - m < count + s - n
     walk-less = omega (arith, d .level, p .marked .short, d .piled .marked .short)

@@ -7,7 +7,8 @@ use Rattle.rules.specs.Lists.{keep}
 use Rattle.rules.specs.Tree.{below}
 use Rattle.rules.specs.Listing.{gather}
 use Rattle.rules.specs.Laws.Tabled.{treeIn}
-use Rattle.listing.specs.State.{listIn, stackIn, Apart, Marked}
+use Rattle.rules.specs.Space.{listIn, stackIn}
+use Rattle.listing.specs.State.{Apart, Marked}
 
 -- those of the start nodes, s of them, that are below node p
 abbrev pub belowIn : Block → List ℕ → (count s p : ℕ) → List ℕ

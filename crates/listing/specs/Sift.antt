@@ -10,9 +10,9 @@ use Rattle.rules.specs.Blob.{Block}
 use Rattle.rules.specs.Lists.{keep}
 use Rattle.rules.specs.Tree.{frame}
 use Rattle.rules.specs.Listing.{within}
-use Rattle.rules.specs.Space.{listAt}
+use Rattle.rules.specs.Space.{listAt, listIn}
 use Rattle.rules.specs.Laws.Tabled.{treeIn}
-use Rattle.listing.specs.State.{listIn, Apart}
+use Rattle.listing.specs.State.{Apart}
 
 -- neither the root, nor excluded, nor below an exclusion
 abbrev pub spared : Block → List ℕ → ℕ → (excl : List ℕ) → ℕ → Bool

@@ -3,31 +3,22 @@ use mathlib.Core.Path.{_≡_}
 use mathlib.Core.Bool.{Bool}
 use mathlib.Core.List.{List, [], _∷_, _++_}
 use Prim.Native.Nat.{ℕ, _+_, _≤_, _<_}
-use lib.ListN.{length, getD, take, drop}
+use lib.ListN.{length, getD}
 use Rattle.rules.specs.Ceilings.{nodeCeiling, workWords}
 use Rattle.rules.specs.Octets.{if_then_else_, lay}
 use Rattle.rules.specs.Lists.{oneOf, fresh}
 use Rattle.rules.specs.Listing.{_∈_}
-use Rattle.rules.specs.Space.{marksAt, listAt, stackAt}
+use Rattle.rules.specs.Space.{tableWords, marksAt, listAt, listIn, stackIn}
 use Rattle.rules.specs.Laws.Lists.{Distinct}
-use Rattle.rules.specs.Laws.Kept.{Alike}
-
--- the first n nodes of the list, and of the stack, whose top is the last
-unfoldable pub listIn : List ℕ → ℕ → List ℕ
-listIn ws n = take n (drop listAt ws)
-
-unfoldable pub stackIn : List ℕ → ℕ → List ℕ
-stackIn ws s = take s (drop stackAt ws)
+use Rattle.rules.specs.Laws.Kept.{Only}
 
 -- node x marked and put behind the first n of the list
 unfoldable pub entered : List ℕ → (n x : ℕ) → List ℕ
 entered ws n x = lay (lay ws (marksAt + x) (1 ∷ [])) (listAt + n) (x ∷ [])
 
 -- nothing is written but behind the node table and inside the work space
-pub record Apart (ws vs : List ℕ) : Type 0 where
-  pub alike : Alike ws vs
-  pub size : length vs ≡ length ws
-  pub rest : drop workWords vs ≡ drop workWords ws
+abbrev pub Apart : (ws vs : List ℕ) → Type 0
+Apart ws vs = Only tableWords workWords ws vs
 
 abbrev pub mark : Bool → ℕ
 mark noted = if noted then 1 else 0

@@ -6,7 +6,8 @@ use Rattle.rules.specs.Blob.{Block}
 use Rattle.rules.specs.References.{edition1, targets}
 use Rattle.rules.specs.Listing.{work}
 use Rattle.rules.specs.Laws.Tabled.{treeIn}
-use Rattle.listing.specs.State.{listIn, stackIn, Apart, Marked}
+use Rattle.rules.specs.Space.{listIn, stackIn}
+use Rattle.listing.specs.State.{Apart, Marked}
 
 -- What the work list comes to, from n nodes listed and s on the stack. Each turn takes a node, and no node twice.
 abbrev pub workFrom : Block → (table words : List ℕ) (count n s : ℕ) → List ℕ

@@ -13,7 +13,8 @@ ghost use Rattle.rules.specs.Lists.{keep};
 ghost use Rattle.rules.specs.Tree.{below};
 ghost use Rattle.rules.specs.Listing.{_∈_};
 ghost use Rattle.rules.specs.Laws.Tabled.{treeIn};
-ghost use Rattle.listing.specs.State.{stackIn, Marked, Gains};
+ghost use Rattle.rules.specs.Space.{stackIn};
+ghost use Rattle.listing.specs.State.{Marked, Gains};
 ghost use Rattle.listing.specs.Given.{belowIn, withBelow, Gathers};
 
 // Clears the marks of `count` nodes: none is listed.
@@ -21,11 +22,7 @@ pub fn clear_marks(work: &mut [u32], count: usize)
     requires { ⌜ (count ≤ nodeCeiling) × (workWords ≤ length (now work)) ⌝ }
     ensures { λ _. ⌜ Gains count (now (work .entry)) 0 [] (now (work .exit)) 0 [] ⌝ }
 {
-    let mut i = 0;
-    while i < count {
-        octets::put_word_of(work, MARKS_AT + i, 0);
-        i += 1;
-    }
+    octets::clear_from(work, MARKS_AT, count);
 }
 
 // Lists node x unless it is listed. Answers how many are listed then.

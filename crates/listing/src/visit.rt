@@ -1,35 +1,25 @@
 // Visiting a node: its reference properties are scanned in order, and each target that is not noted yet is noted.
 use crate::note::Ends;
 use crate::note::note;
-use references::cells::string_at;
 use references::rows::Cells;
 use references::rows::cells_name;
 use references::rows::is_phandle_property;
 use references::scan::Next;
 use references::scan::next_reference;
-use references::table::cell;
-use rules::Kind;
-use rules::Token;
+use references::table::begin_of;
+use tokens::Property;
 ghost use mathlib.Core.Path.{_≡_};
 ghost use mathlib.Core.List.{[], map};
 ghost use Prim.Native.Nat.{ℕ, _<_};
 ghost use Rattle.rules.specs.Blob.{blockOf};
 ghost use Rattle.rules.specs.Events.{stringAt};
 ghost use Rattle.rules.specs.References.{target, edition1, targets, referencesOf};
-ghost use Rattle.rules.specs.Laws.Tabled.{treeIn, beginOf};
+ghost use Rattle.rules.specs.Laws.Tabled.{treeIn};
 ghost use Rattle.rules.specs.Laws.Kept.{Kept};
 ghost use Rattle.references.specs.Rows.{meaning};
 ghost use Rattle.references.specs.Scan.{scanIn};
 ghost use Rattle.listing.specs.State.{Piled, Stacks};
-ghost use Rattle.listing.specs.Visit.{Told, propertyOf};
-
-// What a token does to a visit.
-pub enum Turn {
-    // It goes on, with so many nodes listed and on the stack.
-    On(Ends),
-    // The node's properties end here.
-    Done,
-}
+ghost use Rattle.listing.specs.Visit.{propertyOf};
 
 // Notes the targets of one value, whose targets are asked for this cells property.
 fn note_targets(
@@ -77,7 +67,7 @@ fn property(
     requires { ⌜ Piled (now work) count (ends .list) (ends .stack) ⌝ }
     ensures { λ r. ⌜ ((at : ℕ) → Stacks count (now (work .entry)) (ends .list) (ends .stack) (map target (referencesOf edition1 (treeIn (blockOf place (now (structure .entry)) (now (strings .entry))) (now (work .entry)) count) (propertyOf at (stringAt (now (strings .entry)) name) (now (value .entry))))) (now (work .exit)) (r .list) (r .stack) []) ⌝ }
 {
-    let n = string_at(strings, name);
+    let n = octets::string_at(strings, name);
     if !is_phandle_property(n) {
         return ends;
     }
@@ -91,42 +81,6 @@ fn property(
         cells_name(n),
         ends,
     )
-}
-
-// One token's part.
-fn after_token(
-    structure: &[u8],
-    strings: &[u8],
-    place: usize,
-    work: &mut [u32],
-    count: usize,
-    kind: Kind,
-    ends: Ends,
-) -> Turn
-    requires { ⌜ Kept (blockOf place (now structure) (now strings)) (now work) count ⌝ }
-    requires { ⌜ Piled (now work) count (ends .list) (ends .stack) ⌝ }
-    ensures { λ r. ⌜ Told (blockOf place (now (structure .entry)) (now (strings .entry))) (now (work .entry)) count ends kind (now (work .exit)) r ⌝ }
-{
-    match kind {
-        Kind::Begin { len: _ } => Turn::Done,
-        Kind::EndNode => Turn::Done,
-        Kind::Nop => Turn::On(ends),
-        Kind::Prop { len, name, value } => {
-            let v = octets::part(structure, value, len);
-            Turn::On(property(structure, strings, place, work, count, name, v, ends))
-        }
-    }
-}
-
-// Where the BEGIN of node x stands in the structure.
-fn begin_of(work: &[u32], place: usize, x: usize) -> usize
-    ensures { λ r. ⌜ r ≡ beginOf place (now (work .entry)) x ⌝ }
-{
-    let begin = cell(work, x, 0) as usize;
-    if begin < place {
-        return 0;
-    }
-    begin - place
 }
 
 // Notes the targets of node x, in property and word order.
@@ -144,24 +98,21 @@ pub fn visit(
     requires { ⌜ x < count ⌝ }
     ensures { λ r. ⌜ Stacks count (now (work .entry)) (ends .list) (ends .stack) (targets edition1 (treeIn (blockOf place (now (structure .entry)) (now (strings .entry))) (now (work .entry)) count) x) (now (work .exit)) (r .list) (r .stack) [] ⌝ }
 {
-    let begin = begin_of(work, place, x);
-    let Token::Item {
-        kind: _,
-        next: first,
-    } = tokens::token_at(structure, begin)
-    else {
-        return ends;
-    };
     let mut e = ends;
-    let mut at = first;
+    let mut at = tokens::behind(structure, begin_of(work, place, x));
     loop {
-        let Token::Item { kind, next } = tokens::token_at(structure, at) else {
+        let Property::Here {
+            at: _,
+            len,
+            name,
+            value,
+            next,
+        } = tokens::property_at(structure, at)
+        else {
             return e;
         };
-        let Turn::On(after) = after_token(structure, strings, place, work, count, kind, e) else {
-            return e;
-        };
-        e = after;
+        let v = octets::part(structure, value, len);
+        e = property(structure, strings, place, work, count, name, v, e);
         at = next;
     }
 }

@@ -6,6 +6,7 @@ ghost use Prim.Native.Nat.{_+_, _-_, _*_, _<_, min};
 ghost use lib.Dec.{ltb};
 ghost use lib.ListN.{getD, drop};
 ghost use Rattle.rules.specs.Octets.{byteAt, wordAt, longAt, nulIn, part, same, begins, ends, holds, lay, zeros, be32, be64};
+ghost use Rattle.rules.specs.Events.{stringAt};
 
 // ---- reading
 
@@ -101,6 +102,13 @@ pub fn part(s: &[u8], at: usize, n: usize) -> &[u8]
     }
     let end = at + n;
     &s[at..end]
+}
+
+// The string at a place, up to its first NUL; all that are left where there is none, and empty past the end.
+pub fn string_at(s: &[u8], at: usize) -> &[u8]
+    ensures { λ r. ⌜ now r ≡ stringAt (now (s .entry)) at ⌝ }
+{
+    part(s, at, nul(s, at))
 }
 
 // The word at an index; 0 past the end.
@@ -231,16 +239,23 @@ pub fn put_long(d: &mut [u8], at: usize, v: u64)
     }
 }
 
-// Makes the first n words zero, or all where there are fewer; the rest stays.
+// Makes n words from a place on zero; those that there are, where there are fewer. The rest stays.
+pub fn clear_from(d: &mut [u32], at: usize, n: usize)
+    ensures { λ _. ⌜ now (d .exit) ≡ lay (now (d .entry)) at (zeros n) ⌝ }
+{
+    let room = fitting(d.len(), at, n);
+    let mut k = 0;
+    while k < room {
+        d[at + k] = 0;
+        k += 1;
+    }
+}
+
+// Makes the first n words zero, as `clear_from` does.
 pub fn clear(d: &mut [u32], n: usize)
     ensures { λ _. ⌜ now (d .exit) ≡ lay (now (d .entry)) 0 (zeros n) ⌝ }
 {
-    let m = fitting(d.len(), 0, n);
-    let mut i = 0;
-    while i < m {
-        d[i] = 0;
-        i += 1;
-    }
+    clear_from(d, 0, n);
 }
 
 // Puts a word at an index; past the end it is dropped.

@@ -1,6 +1,6 @@
 // Refusal 11: a property that is read as a 32-bit word isn't one, or a node's two phandle names disagree.
-use crate::words::cells_name;
-use crate::words::phandle_name;
+use crate::words::is_cells_name;
+use crate::words::is_phandle_name;
 use doubled::Found;
 use rules::Kind;
 use rules::Token;
@@ -47,13 +47,13 @@ fn given(value: &[u8], seen: Seen) -> Turn
 fn property(name: &[u8], value: &[u8], seen: Seen) -> Turn
     ensures { λ r. ⌜ r ≡ onProperty seen (now (name .entry)) (now (value .entry)) ⌝ }
 {
-    if phandle_name(name) {
+    if is_phandle_name(name) {
         return given(value, seen);
     }
     if value.len() == 4 {
         return Turn::Go(seen);
     }
-    if cells_name(name) {
+    if is_cells_name(name) {
         return Turn::Fault;
     }
     Turn::Go(seen)
@@ -71,8 +71,11 @@ fn after_token(s: &[u8], strings: &[u8], kind: Kind, seen: Seen) -> Turn
             if let Seen::Outside = seen {
                 return Turn::Go(seen);
             }
-            let n = octets::part(strings, name, octets::nul(strings, name));
-            property(n, octets::part(s, value, len), seen)
+            property(
+                octets::string_at(strings, name),
+                octets::part(s, value, len),
+                seen,
+            )
         }
     }
 }

@@ -1,5 +1,5 @@
 // Refusal 12: two nodes have one phandle. On its way the pass writes each node's phandle into its row of the node table.
-use crate::words::phandle_name;
+use crate::words::is_phandle_name;
 use doubled::Found;
 use rules::Kind;
 use rules::NODE_WORDS;
@@ -110,7 +110,7 @@ fn row_turn(
                     wants: false,
                 };
             }
-            if !phandle_name(octets::part(strings, name, octets::nul(strings, name))) {
+            if !is_phandle_name(octets::string_at(strings, name)) {
                 return Row::Go {
                     number,
                     wants: true,

@@ -3,7 +3,7 @@ ghost use mathlib.Core.Path.{_≡_};
 ghost use Rattle.rules.specs.Tree.{isPhandle, among, cellsNames};
 
 // Whether n gives a node its phandle.
-pub fn phandle_name(n: &[u8]) -> bool
+pub fn is_phandle_name(n: &[u8]) -> bool
     ensures { λ r. ⌜ r ≡ isPhandle (now (n .entry)) ⌝ }
 {
     if octets::same(n, b"phandle") {
@@ -13,7 +13,7 @@ pub fn phandle_name(n: &[u8]) -> bool
 }
 
 // Whether n is one of the 14 names of cells. Most names do not begin with `#`, and are done with at once.
-pub fn cells_name(n: &[u8]) -> bool
+pub fn is_cells_name(n: &[u8]) -> bool
     ensures { λ r. ⌜ r ≡ among (now (n .entry)) cellsNames ⌝ }
 {
     if octets::byte(n, 0) != b'#' {

@@ -1,5 +1,5 @@
 // A node's parent and name, and climbing from parent to parent.
-use references::cells::string_at;
+use references::table::begin_of;
 use references::table::cell;
 ghost use mathlib.Core.Path.{_≡_};
 ghost use Prim.Native.Nat.{_<_};
@@ -31,11 +31,7 @@ pub fn name<'a, 'b>(
     if count <= i {
         return &structure[..0];
     }
-    let begin = cell(work, i, 0) as usize;
-    if begin < place {
-        return string_at(structure, 4);
-    }
-    string_at(structure, begin - place + 4)
+    octets::string_at(structure, begin_of(work, place, i) + 4)
 }
 
 // Whether node m is below node p.

@@ -13,12 +13,12 @@ use Rattle.rules.specs.Blob.{Block}
 use Rattle.rules.specs.Lists.{oneOf}
 use Rattle.rules.specs.Tree.{Tree, node, frame}
 use Rattle.rules.specs.Copy.{null, isCpus, cpuChild, stranger}
-use Rattle.rules.specs.Space.{marksAt, stackAt, namesAt}
+use Rattle.rules.specs.Space.{marksAt, stackAt, namesAt, listIn}
 use Rattle.rules.specs.Laws.Tests.{by-test}
 use Rattle.rules.specs.Laws.Octets.{lay-one-same, lay-one-other, length-lay}
 use Rattle.rules.specs.Laws.Kept.{Kept, only-then, only-one, only-tree, marks-behind, list-behind, stack-behind, names-behind, names-room}
 use Rattle.rules.specs.Laws.Tabled.{treeIn, tree-length}
-use Rattle.picks.specs.Marks.{marked, listIn, Noted}
+use Rattle.picks.specs.Marks.{marked, Noted}
 use Rattle.picks.specs.Codes.{next, taken, codeOf, code-root, code-step, taken-picked}
 use Rattle.picks.specs.Turns.{parentCode, codeAt, markAt, turned, pickOf, Coded, Picks}
 

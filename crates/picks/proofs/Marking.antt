@@ -11,17 +11,17 @@ use lib.ListN.{length, getD, drop, length-take, length-drop}
 use lib.Seq.{take-suc, getD-drop, getD-take, ext-getD}
 use borrow.Author.Tests.{eqb-true, eqb-false}
 use Rattle.rules.specs.Ceilings.{nodeCeiling, workWords}
-use Rattle.rules.specs.Octets.{lay}
+use Rattle.rules.specs.Octets.{lay, zeros}
 use Rattle.rules.specs.Blob.{Block}
 use Rattle.rules.specs.Lists.{oneOf, any}
 use Rattle.rules.specs.Tree.{Node, Tree, node, below, climb}
-use Rattle.rules.specs.Space.{tableWords, marksAt, listAt, namesAt}
+use Rattle.rules.specs.Space.{tableWords, marksAt, listAt, namesAt, listIn}
 use Rattle.rules.specs.Laws.Tests.{by-test, eqb-sym, or-nothing, or-comm}
 use Rattle.rules.specs.Laws.Octets.{lay-one-same, lay-one-other}
 use Rattle.rules.specs.Laws.Lists.{one-any, any-last}
-use Rattle.rules.specs.Laws.Kept.{Only, only-none, only-then, only-wide, only-one, only-tree, only-kept, marks-behind, list-behind, stack-behind, names-behind, names-room}
+use Rattle.rules.specs.Laws.Kept.{Only, only-none, only-then, only-wide, only-one, only-zeros, only-tree, only-kept, zeros-at, marks-behind, list-behind, stack-behind, names-behind, names-room}
 use Rattle.rules.specs.Laws.Tabled.{treeIn, tree-length, node-in}
-use Rattle.picks.specs.Marks.{marked, listIn, Listed, Keeps, Unmarked, Noted}
+use Rattle.picks.specs.Marks.{marked, Listed, Keeps, Unmarked, Noted}
 
 -- ---- one word
 
@@ -31,23 +31,6 @@ module _ (ws : List ℕ) (at x : ℕ) (h : at + x < length ws) where
   marked-set y = by-test (eqb y x)
       (λ e. let q : y ≡ x = eqb-true y x e in rw (e, q, lay-one-same ws (at + x) 1 0 h))
       (λ e. rw (e, lay-one-other ws (at + x) 1 0 (at + y) (λ q. eqb-false y x e (omega arith))))
-
--- ---- cleared
-
-pub record Cleared (at n : ℕ) (ws vs : List ℕ) (i : ℕ) : Type 0 where
-  pub only : Only at (at + n) ws vs
-  pub zero : (k : ℕ) → k < i → getD vs (at + k) 0 ≡ 0
-
-pub cleared-none : (at n : ℕ) (ws : List ℕ) → Cleared at n ws ws 0
-cleared-none at n ws = record { only = only-none ws; zero = λ k h. absurd (let z : ⊥ = omega arith in z) }
-
-pub cleared-more : (at n : ℕ) (ws vs us : List ℕ) (i : ℕ) → at + n ≤ length ws → Cleared at n ws vs i → i < n → us ≡ lay vs (at + i) (0 ∷ []) → Cleared at n ws us (i + 1)
-cleared-more at n ws vs us i room c h e = record {
-  only = only-then (c .only) (rw e (only-one vs (at + i) 0 (omega arith) (omega arith)));
-  zero = λ k l. rw e (by-test (eqb k i)
-      (λ q. let z : k ≡ i = eqb-true k i q in rw z (lay-one-same vs (at + i) 0 0 (omega (arith, c .only .size))))
-      (λ q. lay-one-other vs (at + i) 0 0 (at + k) (λ z. eqb-false k i q (omega arith)) ∙ c .zero k (omega (arith, eqb-false k i q))));
-}
 
 -- ---- the way up
 
@@ -130,12 +113,13 @@ module _ (count : ℕ) (ws : List ℕ) (k : Keeps ws count) where
 -- ---- the nodes of the list
 
 list-more : (ws : List ℕ) (k : ℕ) → listAt + k < length ws → listIn ws (k + 1) ≡ listIn ws k ++ (getD ws (listAt + k) 0 ∷ [])
+unfolding listIn
 list-more ws k h =
     rw (add-one k) (take-suc (drop listAt ws) k 0 (simp length-drop (omega arith)) ∙ ap (λ (x : ℕ). listIn ws k ++ (x ∷ [])) (getD-drop listAt ws k 0))
 
 module _ (count : ℕ) (ws : List ℕ) (keeps : Keeps ws count) where
   pub noted-first : Unmarked ws → Noted count ws ws (listIn ws 0)
-  unfolding oneOf any
+  unfolding listIn oneOf any
   noted-first u =
       let few : count ≤ nodeCeiling = keeps .1 .few in
       record {
@@ -203,15 +187,20 @@ noted-done count ws vs k n h g m = let e : k ≡ n = omega arith in rw (← e) m
 -- ---- cleared first
 
 module _ (count : ℕ) (ws : List ℕ) (keeps : Keeps ws count) (n : ℕ) (h : n ≤ nodeCeiling) (vs us : List ℕ)
-    (c : Only marksAt (marksAt + nodeCeiling) ws vs × ((i : ℕ) → i < nodeCeiling → getD vs (marksAt + i) 0 ≡ 0))
-    (d : Only namesAt (namesAt + nodeCeiling) vs us × ((i : ℕ) → i < nodeCeiling → getD us (namesAt + i) 0 ≡ 0)) where
+    (c : vs ≡ lay ws marksAt (zeros nodeCeiling)) (d : us ≡ lay vs namesAt (zeros nodeCeiling)) where
+  own-only : Only marksAt (marksAt + nodeCeiling) ws vs
+  own-only = rw c (only-zeros ws marksAt nodeCeiling (omega arith) (omega arith))
+
+  over-only : Only namesAt (namesAt + nodeCeiling) vs us
+  over-only = rw d (only-zeros vs namesAt nodeCeiling (omega arith) (omega arith))
+
   cleared-list : Listed ws us
-  cleared-list i g l = d .0 .before i (omega (arith, stack-behind, names-behind, l)) ∙ c .0 .behind i (omega (arith, list-behind, g))
+  cleared-list i g l = over-only .before i (omega (arith, stack-behind, names-behind, l)) ∙ own-only .behind i (omega (arith, list-behind, g))
 
   cleared-only : Only marksAt workWords ws us
   cleared-only =
-      only-then (only-wide (omega arith) (omega (arith, list-behind, stack-behind, names-behind, names-room)) (c .0))
-      (only-wide (omega (arith, list-behind, stack-behind, names-behind)) (omega (arith, names-room)) (d .0))
+      only-then (only-wide (omega arith) (omega (arith, list-behind, stack-behind, names-behind, names-room)) own-only)
+      (only-wide (omega (arith, list-behind, stack-behind, names-behind)) (omega (arith, names-room)) over-only)
 
   pub cleared-keeps : Keeps us count
   cleared-keeps = (keeps .0, only-kept (keeps .0) count marks-behind cleared-only (keeps .1))
@@ -221,11 +210,14 @@ module _ (count : ℕ) (ws : List ℕ) (keeps : Keeps ws count) (n : ℕ) (h : n
 
   pub cleared-none-marked : Unmarked us
   cleared-none-marked = record {
-    own = λ i g. d .0 .before (marksAt + i) (omega (arith, list-behind, stack-behind, names-behind)) ∙ c .1 i g;
-    over = d .1;
+    own = λ i g. over-only .before (marksAt + i) (omega (arith, list-behind, stack-behind, names-behind))
+        ∙ ap (λ (zs : List ℕ). getD zs (marksAt + i) 0) c
+        ∙ zeros-at ws marksAt nodeCeiling i (omega (arith, keeps .1 .room, list-behind, stack-behind, names-behind, names-room)) g;
+    over = λ i g. ap (λ (zs : List ℕ). getD zs (namesAt + i) 0) d ∙ zeros-at vs namesAt nodeCeiling i (omega (arith, keeps .1 .room, names-room, own-only .size)) g;
   }
 
   same-list : listIn us n ≡ listIn ws n
+  unfolding listIn
   same-list =
       ext-getD 0 (listIn us n) (listIn ws n) (simp (length-take, length-drop) (omega (arith, cleared-only .size)))
       (λ i l. let g : i < n = omega (arith, length-take n (drop listAt us)) in

@@ -4,7 +4,7 @@ use mathlib.Core.Bool.{Bool}
 use mathlib.Core.List.{List}
 use Prim.Native.Nat.{ℕ, _+_, _≤_, _<_}
 use lib.Dec.{eqb}
-use lib.ListN.{getD, take, drop}
+use lib.ListN.{getD}
 use Rattle.rules.specs.Ceilings.{nodeCeiling, workWords}
 use Rattle.rules.specs.Blob.{Block}
 use Rattle.rules.specs.Lists.{oneOf, any}
@@ -16,10 +16,6 @@ use Rattle.rules.specs.Laws.Tabled.{treeIn}
 -- whether node x is marked, in the part that begins at a word
 abbrev pub marked : List ℕ → (at x : ℕ) → Bool
 marked ws at x = eqb (getD ws (at + x) 0) 1
-
--- the n nodes of the list
-abbrev pub listIn : List ℕ → ℕ → List ℕ
-listIn ws n = take n (drop listAt ws)
 
 -- the list's own words stay
 abbrev pub Listed : (ws vs : List ℕ) → Type 0

@@ -10,10 +10,10 @@ use Rattle.rules.specs.Blob.{Block}
 use Rattle.rules.specs.Lists.{oneOf, any}
 use Rattle.rules.specs.Tree.{Tree, node, below, frame}
 use Rattle.rules.specs.Copy.{null, isCpus, stranger, picked}
-use Rattle.rules.specs.Space.{marksAt, stackAt, namesAt}
+use Rattle.rules.specs.Space.{marksAt, stackAt, namesAt, listIn}
 use Rattle.rules.specs.Laws.Kept.{Kept, Only}
 use Rattle.rules.specs.Laws.Tabled.{treeIn}
-use Rattle.picks.specs.Marks.{marked, listIn, Listed, Noted}
+use Rattle.picks.specs.Marks.{marked, Listed, Noted}
 use Rattle.picks.specs.Codes.{next, taken, codeOf}
 
 -- the code of the parent, whose number is smaller; the root has none

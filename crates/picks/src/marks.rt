@@ -7,27 +7,14 @@ use rules::NODE_CEILING;
 ghost use mathlib.Core.Path.{_≡_};
 ghost use mathlib.Core.Bool.{_||_};
 ghost use Prim.Native.Nat.{ℕ, _+_, _≤_, _<_};
-ghost use lib.ListN.{length, getD};
+ghost use lib.ListN.{getD};
 ghost use Rattle.rules.specs.Ceilings.{nodeCeiling, workWords};
 ghost use Rattle.rules.specs.Blob.{Block};
 ghost use Rattle.rules.specs.Tree.{below};
-ghost use Rattle.rules.specs.Space.{listAt, namesAt};
+ghost use Rattle.rules.specs.Space.{listAt, namesAt, listIn};
 ghost use Rattle.rules.specs.Laws.Kept.{Only};
 ghost use Rattle.rules.specs.Laws.Tabled.{treeIn};
-ghost use Rattle.picks.specs.Marks.{marked, listIn, Keeps, Unmarked, Noted};
-
-// Makes n words from a place on zero.
-fn clear(work: &mut [u32], at: usize, n: usize)
-    requires { ⌜ at + n ≤ length (now work) ⌝ }
-    ensures only { λ _. ⌜ Only at (at + n) (now (work .entry)) (now (work .exit)) ⌝ }
-    ensures zero { λ _. ⌜ ((i : ℕ) → i < n → getD (now (work .exit)) (at + i) 0 ≡ 0) ⌝ }
-{
-    let mut i = 0;
-    while i < n {
-        octets::put_word_of(work, at + i, 0);
-        i += 1;
-    }
-}
+ghost use Rattle.picks.specs.Marks.{marked, Keeps, Unmarked, Noted};
 
 // Marks the nodes above node j.
 fn above(work: &mut [u32], count: usize, j: usize)
@@ -72,7 +59,7 @@ pub fn ways(work: &mut [u32], count: usize, n: usize)
     requires { ⌜ ((k : ℕ) → k < n → getD (now work) (listAt + k) 0 < count) ⌝ }
     ensures { λ _. ⌜ Noted count (now (work .entry)) (now (work .exit)) (listIn (now (work .entry)) n) ⌝ }
 {
-    clear(work, MARKS_AT, NODE_CEILING);
-    clear(work, NAMES_AT, NODE_CEILING);
+    octets::clear_from(work, MARKS_AT, NODE_CEILING);
+    octets::clear_from(work, NAMES_AT, NODE_CEILING);
     note(work, count, n);
 }

@@ -1,5 +1,4 @@
 -- What the code of this crate promises, where rules does not say it.
 pub mod Rows
 pub mod Table
-pub mod Cells
 pub mod Scan

@@ -1,7 +1,6 @@
 // The rule table: the names that hold references, and for a name the cells property that its targets are asked for. A name is
 // matched whole and exact, save the endings and the part that are asked for as such. The names are data: tables of names, each
 // closed by NUL, in 01's order, that one loop walks.
-use crate::cells::string_at;
 ghost use mathlib.Core.Path.{_≡_};
 ghost use mathlib.Core.Bool.{_||_};
 ghost use Rattle.rules.specs.Octets.{ascii, same, ends};
@@ -167,7 +166,7 @@ fn is_asked(row: usize, name: &[u8]) -> bool
     if ROWS <= row {
         return false;
     }
-    octets::same(string_at(&CELLS, WIDTH * row), name)
+    octets::same(octets::string_at(&CELLS, WIDTH * row), name)
 }
 
 // Whether a property of this name is that cells property. Every property of a target is asked, and few begin with `#`: the

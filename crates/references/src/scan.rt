@@ -2,7 +2,7 @@
 use crate::cells::cells_of;
 use crate::rows::Cells;
 use crate::table::Found;
-use crate::table::cell;
+use crate::table::begin_of;
 use crate::table::node_of;
 ghost use mathlib.Core.Path.{_≡_};
 ghost use Prim.Native.Nat.{_<_};
@@ -56,11 +56,7 @@ fn cells_at(
 ) -> usize
     ensures { λ r. ⌜ r ≡ countNamed (meaning c) (propsAt (blockOf place (now (structure .entry)) (now (strings .entry))) (beginOf place (now (work .entry)) m)) ⌝ }
 {
-    let begin = cell(work, m, 0) as usize;
-    if begin < place {
-        return cells_of(structure, strings, 0, c) as usize;
-    }
-    cells_of(structure, strings, begin - place, c) as usize
+    cells_of(structure, strings, begin_of(work, place, m), c) as usize
 }
 
 // The first reference from word i of the value on, with this cells property; End where there is none, the value's length is no

@@ -3,7 +3,7 @@ use rules::NODE_WORDS;
 ghost use mathlib.Core.Path.{_≡_};
 ghost use mathlib.Core.Bool.{_&&_};
 ghost use lib.Dec.{eqb};
-ghost use Rattle.rules.specs.Laws.Tabled.{cell, lookIn};
+ghost use Rattle.rules.specs.Laws.Tabled.{cell, beginOf, lookIn};
 ghost use Rattle.references.specs.Table.{found};
 
 // The number of a node, if there is one.
@@ -24,6 +24,18 @@ pub fn cell(work: &[u32], i: usize, k: usize) -> u32
         return 0;
     }
     work[at + k]
+}
+
+// Where the BEGIN of node i stands in the structure, which stands at `place` of the blob: its row has the offset in the blob. 0
+// where that is before the structure.
+pub fn begin_of(work: &[u32], place: usize, i: usize) -> usize
+    ensures { λ r. ⌜ r ≡ beginOf place (now (work .entry)) i ⌝ }
+{
+    let begin = cell(work, i, 0) as usize;
+    if begin < place {
+        return 0;
+    }
+    begin - place
 }
 
 // Whether the row of node i says that its phandle is this one.

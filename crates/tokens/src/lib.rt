@@ -10,6 +10,21 @@ ghost use mathlib.Core.Path.{_≡_};
 ghost use Prim.Native.Nat.{_≤_};
 ghost use lib.ListN.{length};
 ghost use Rattle.rules.specs.Tokens.{beginAt, propAt, tokenAt};
+ghost use Rattle.tokens.specs.Properties.{behindAt, propertyAt};
+
+// The next property of a node: where it stands, the length of its value, its name's offset in the strings block, where its value
+// begins, and where what follows it begins.
+pub enum Property {
+    Here {
+        at: usize,
+        len: usize,
+        name: usize,
+        value: usize,
+        next: usize,
+    },
+    // The node has no further property.
+    Missing,
+}
 
 // BEGIN, whose name begins at b. A name without NUL has no room for one, and so is cut.
 fn begin_at(s: &[u8], b: usize) -> Token
@@ -76,5 +91,47 @@ pub fn token_at(s: &[u8], at: usize) -> Token
         },
         FDT_END => Token::End,
         _ => Token::Cut,
+    }
+}
+
+// Where what follows the item at a place begins; the block's length where no item stands there.
+pub fn behind(s: &[u8], at: usize) -> usize
+    ensures { λ r. ⌜ r ≡ behindAt (now (s .entry)) at ⌝ }
+{
+    let Token::Item { kind: _, next } = token_at(s, at) else {
+        return s.len();
+    };
+    next
+}
+
+// The property that stands at a place or behind NOPs there: Here, or Missing where another token comes first.
+pub fn property_at(s: &[u8], from: usize) -> Property
+    ensures { λ r. ⌜ r ≡ propertyAt (now (s .entry)) from ⌝ }
+{
+    let mut at = from;
+    loop {
+        let Token::Item { kind, next } = token_at(s, at) else {
+            return Property::Missing;
+        };
+        match kind {
+            Kind::Nop => {
+                at = next;
+            }
+            Kind::Prop { len, name, value } => {
+                return Property::Here {
+                    at,
+                    len,
+                    name,
+                    value,
+                    next,
+                };
+            }
+            Kind::Begin { len: _ } => {
+                return Property::Missing;
+            }
+            Kind::EndNode => {
+                return Property::Missing;
+            }
+        }
     }
 }

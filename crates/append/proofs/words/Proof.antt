@@ -1,37 +1,28 @@
 -- `words` meets its contract. The invariant: i numbers are laid in.
-use mathlib.Core.Path.{_≡_, sym, ap, _∙_}
-use Prim.Native.Nat.{_+_, _-_, _≤_}
-use native.Mathlib.Nat.{le-antisymm}
+use Prim.Native.Nat.{_-_}
 use native.Mathlib.Omega.{arith}
-use lib.ListN.{length, take, getD, length-append}
-use lib.Seq.{take-length}
+use lib.ListN.{length}
 use denote.Ref.{now}
-use Rattle.rules.specs.Octets.{be32, words32, lay}
-use Rattle.rules.specs.Laws.Octets.{lay-nil, length-lay, length-be32}
-use Rattle.rules.specs.Laws.Writer.{laid-on, words32-more, words32-cut}
+use Rattle.append.proofs.Laid.{Laid, bits32, laid-none, laid-size, laid-cut, laid-all, laid-more}
 use borrow.Author.Needs.{needs}
 use Rattle.append.proofs.words.Statement.{statement}
 use Rattle.append.proofs.words.Tie as tie
 
 abbrev Inv-loop : tie.InvT-loop
-Inv-loop d₀ at cells p₀ i₀ d p i = (i ≤ length cells) × (p ≡ at + length (words32 (take i cells))) × (d ≡ lay d₀ at (words32 (take i cells)))
+Inv-loop d₀ at cells p₀ i₀ d p i = Laid bits32 d₀ at cells d p i
 
 abbrev μ-loop : tie.MeasureT-loop
 μ-loop d₀ at cells p₀ i₀ d p i = length cells - i
 
 loop-holds : tie.Need-loop-holds Inv-loop μ-loop
-unfolding words32
-loop-holds c = (omega arith, omega arith, sym (lay-nil (now (c .before .before .args .«data»)) (c .before .before .args .at)))
+loop-holds c = laid-none bits32 (now (c .before .before .args .«data»)) (c .before .before .args .at) (now (c .before .before .args .cells))
 
 same-length : tie.Need-same-length Inv-loop μ-loop
-same-length c = ap length (c .before .before .loop .inv .2) ∙ length-lay (now (c .before .before .before .before .before .args .«data»)) (c .before .before .before .before .before .args .at) (words32 (take (c .before .before .loop .i) (now (c .before .before .before .before .before .args .cells))))
+same-length c = laid-size bits32 (now (c .before .before .before .before .before .args .«data»)) (c .before .before .before .before .before .args .at) (now (c .before .before .before .before .before .args .cells)) (c .before .before .loop .«data») (c .before .before .loop .p) (c .before .before .loop .i) (c .before .before .loop .inv)
 
 returns : tie.Need-returns Inv-loop μ-loop
-returns c =
-    let d = now (c .before .before .before .before .before .args .«data») in
-    let vs = now (c .before .before .before .before .before .args .cells) in
-    let l = length-lay d (c .before .before .before .before .before .args .at) (words32 (take (c .before .before .loop .i) vs)) in
-    c .before .before .loop .inv .2 ∙ words32-cut d (c .before .before .before .before .before .args .at) vs (c .before .before .loop .i) (omega (arith, c .if1 .taken, ap length (c .before .before .loop .inv .2), c .before .before .loop .inv .1))
+unfolding bits32
+returns c = laid-cut bits32 (now (c .before .before .before .before .before .args .«data»)) (c .before .before .before .before .before .args .at) (now (c .before .before .before .before .before .args .cells)) (c .before .before .loop .«data») (c .before .before .loop .p) (c .before .before .loop .i) (c .before .before .loop .inv) (c .if1 .taken)
 
 mul-put-word : tie.Need-mul-put-word Inv-loop μ-loop
 mul-put-word c = search needs
@@ -43,7 +34,7 @@ put-word-requires : tie.Need-put-word-requires Inv-loop μ-loop
 put-word-requires c κs = search needs
 
 add-p : tie.Need-add-p Inv-loop μ-loop
-add-p c = omega (arith, ap length (c .before .before .before .before .before .before .before .loop .inv .2), length-lay (now (c .before .before .before .before .before .before .before .before .before .before .args .«data»)) (c .before .before .before .before .before .before .before .before .before .before .args .at) (words32 (take (c .before .before .before .before .before .before .before .loop .i) (now (c .before .before .before .before .before .before .before .before .before .before .args .cells)))))
+add-p c = omega (arith, laid-size bits32 (now (c .before .before .before .before .before .before .before .before .before .before .args .«data»)) (c .before .before .before .before .before .before .before .before .before .before .args .at) (now (c .before .before .before .before .before .before .before .before .before .before .args .cells)) (c .before .before .before .before .before .before .before .loop .«data») (c .before .before .before .before .before .before .before .loop .p) (c .before .before .before .before .before .before .before .loop .i) (c .before .before .before .before .before .before .before .loop .inv))
 
 add-i : tie.Need-add-i Inv-loop μ-loop
 add-i c = search needs
@@ -52,23 +43,15 @@ loop-less : tie.Need-loop-less Inv-loop μ-loop
 loop-less c = search needs
 
 loop-again : tie.Need-loop-again Inv-loop μ-loop
-loop-again c =
-    let d = now (c .before .before .before .before .before .before .before .before .before .before .args .«data») in
-    let vs = now (c .before .before .before .before .before .before .before .before .before .before .args .cells) in
-    let i = c .before .before .before .before .before .before .before .loop .i in
-    let more = words32-more vs i (omega arith) in (
-      omega arith,
-      omega (arith, c .before .before .before .before .before .before .before .loop .inv .1, ap length more, length-append (words32 (take i vs)) (be32 (getD vs i 0)), length-be32 (getD vs i 0)),
-      rw more (laid-on d (c .before .before .before .before .before .before .before .before .before .before .args .at) (words32 (take i vs)) (be32 (getD vs i 0)) (c .before .before .before .before .before .before .before .loop .inv .2) (c .before .before .before .before .before .before .before .loop .inv .1) (c .before .before .put-word .ensures)),
-    )
+unfolding bits32
+loop-again c = laid-more bits32 (now (c .before .before .before .before .before .before .before .before .before .before .args .«data»)) (c .before .before .before .before .before .before .before .before .before .before .args .at) (now (c .before .before .before .before .before .before .before .before .before .before .args .cells)) (c .before .before .before .before .before .before .before .loop .«data») (c .before .before .before .before .before .before .before .loop .p) (c .before .before .before .before .before .before .before .loop .i) (c .before .before .before .before .before .before .before .loop .inv) (c .before .before .before .before .before .before .loop-test .taken) (c .before .before .put-word .last .0) (c .before .before .put-word .ensures)
 
 same-length-2 : tie.Need-same-length-2 Inv-loop μ-loop
-same-length-2 c = ap length (c .before .loop .inv .2) ∙ length-lay (now (c .before .before .before .before .args .«data»)) (c .before .before .before .before .args .at) (words32 (take (c .before .loop .i) (now (c .before .before .before .before .args .cells))))
+same-length-2 c = laid-size bits32 (now (c .before .before .before .before .args .«data»)) (c .before .before .before .before .args .at) (now (c .before .before .before .before .args .cells)) (c .before .loop .«data») (c .before .loop .p) (c .before .loop .i) (c .before .loop .inv)
 
 returns-2 : tie.Need-returns-2 Inv-loop μ-loop
-returns-2 c =
-    let end = le-antisymm (c .before .loop .inv .0) (c .loop-test .left) in
-    c .before .loop .inv .2 ∙ rw (end, take-length)
+unfolding bits32
+returns-2 c = laid-all bits32 (now (c .before .before .before .before .args .«data»)) (c .before .before .before .before .args .at) (now (c .before .before .before .before .args .cells)) (c .before .loop .«data») (c .before .loop .p) (c .before .loop .i) (c .before .loop .inv) (c .loop-test .left)
 
 pub words-spec : {M : Type 1} → statement M
 words-spec = tie.close (tie.spec Inv-loop μ-loop loop-holds same-length returns mul-put-word shared-slice-read-put-word put-word-requires add-p add-i loop-less loop-again same-length-2 returns-2)

@@ -7,11 +7,12 @@ use lib.ListN.{length}
 use denote.Ref.{now}
 use Rattle.rules.specs.Laws.Kept.{Kept}
 use Rattle.rules.specs.Laws.Tabled.{treeIn}
-use Rattle.picks.specs.Marks.{Noted, listIn}
+use Rattle.picks.specs.Marks.{Noted}
 use Rattle.picks.specs.Turns.{Coded}
 use Rattle.picks.proofs.Coding.{coded-first, coded-more, coded-end, turned-length}
 use borrow.Author.Needs.{needs}
 use Rattle.rules.specs.Blob.{blockOf}
+use Rattle.rules.specs.Space.{listIn}
 use Rattle.picks.proofs.each.Statement.{statement}
 use Rattle.picks.proofs.each.Tie as tie
 

@@ -5,11 +5,11 @@ use mathlib.Core.Path.{_≡_, refl, sym, ap, _∙_}
 use mathlib.Core.List.{List, [], _∷_}
 use Prim.Native.Nat.{ℕ, zero, suc, _+_, _*_, _≤_, _<_}
 use native.Mathlib.Omega.{arith}
-use lib.ListN.{length, getD, drop, length-take, length-drop}
+use lib.ListN.{length, getD, take, drop, length-take, length-drop, List·getD-eq-default, getD-replicate}
 use lib.Seq.{ext-getD, getD-take, getD-drop}
 use borrow.Author.Tests.{le-ltb}
 use Rattle.rules.specs.Ceilings.{blobCeiling, nodeCeiling, nodeWords, workWords}
-use Rattle.rules.specs.Octets.{Bytes, put, lay}
+use Rattle.rules.specs.Octets.{Bytes, zeros, put, lay}
 use Rattle.rules.specs.Outcome.{passes}
 use Rattle.rules.specs.Blob.{Block, headerJudged, blockIn}
 use Rattle.rules.specs.Tree.{Tree, node, nowhere, numbersFrom}
@@ -17,7 +17,7 @@ use Rattle.rules.specs.Reader.{treeRead, blobJudged, rowsOf, spaceOf, re
 use Rattle.rules.specs.References.{lookup}
 use Rattle.rules.specs.Space.{tableWords, marksAt, listAt, stackAt, namesAt}
 use Rattle.rules.specs.Laws.Tests.{by-le}
-use Rattle.rules.specs.Laws.Octets.{put-before, length-lay, lay-past, lay-one-other}
+use Rattle.rules.specs.Laws.Octets.{put-before, put-inside, put-behind, length-lay, lay-put, lay-past, lay-one-other, length-zeros}
 use Rattle.rules.specs.Laws.Blob.{header-inside}
 use Rattle.rules.specs.Laws.Reader.{space-length, table-fits}
 use Rattle.rules.specs.Laws.Paths.{Formed}
@@ -143,6 +143,22 @@ lay-before ws at xs z i h = by-le (length ws) at
     (λ l. ap (λ (vs : List ℕ). getD vs i z) (lay-past ws at xs l))
     (λ l. getD-take (length ws) (put ws at xs) i z (omega arith) ∙ put-before ws at xs i z h (omega arith))
 
+-- what stands behind them
+pub lay-behind : (ws : List ℕ) (at : ℕ) (xs : List ℕ) (z i : ℕ) → at + length xs ≤ i → getD (lay ws at xs) i z ≡ getD ws i z
+unfolding lay
+lay-behind ws at xs z i h = by-le (length ws) at
+    (λ l. ap (λ (vs : List ℕ). getD vs i z) (lay-past ws at xs l))
+    (λ l. by-le (length ws) i
+    (λ k. List·getD-eq-default (take (length ws) (put ws at xs)) z (omega (arith, length-lay ws at xs)) ∙ sym (List·getD-eq-default ws z k))
+    (λ k. getD-take (length ws) (put ws at xs) i z k ∙ put-behind ws at xs i z h (omega arith)))
+
+-- a word that is cleared
+pub zeros-at : (ws : List ℕ) (at n i : ℕ) → at + n ≤ length ws → i < n → getD (lay ws at (zeros n)) (at + i) 0 ≡ 0
+zeros-at ws at n i h l =
+    ap (λ (vs : List ℕ). getD vs (at + i) 0) (lay-put ws at (zeros n) (omega (arith, length-zeros n)))
+    ∙ put-inside ws at (zeros n) i 0 (omega (arith, length-zeros n)) (omega arith)
+    ∙ getD-replicate {A = ℕ} n i 0 0 l
+
 -- writing behind the table leaves the table
 pub lay-alike : (ws : List ℕ) (at : ℕ) (xs : List ℕ) → tableWords ≤ at → Alike ws (lay ws at xs)
 lay-alike ws at xs h i l = lay-before ws at xs 0 i (omega arith)
@@ -173,6 +189,14 @@ module _ {lo hi : ℕ} where
     size = length-lay ws at (x ∷ []);
     before = λ i h. lay-one-other ws at x 0 i (λ e. omega arith);
     behind = λ i h. lay-one-other ws at x 0 i (λ e. omega arith);
+  }
+
+  -- words that are cleared
+  pub only-zeros : (ws : List ℕ) (at n : ℕ) → lo ≤ at → at + n ≤ hi → Only lo hi ws (lay ws at (zeros n))
+  only-zeros ws at n f g = record {
+    size = length-lay ws at (zeros n);
+    before = λ i h. lay-before ws at (zeros n) 0 i (omega arith);
+    behind = λ i h. lay-behind ws at (zeros n) 0 i (omega (arith, length-zeros n));
   }
 
   -- the table stays

@@ -1,75 +1,86 @@
 -- `reg_of` meets its contract. The invariant: what `reg` of the node says is what it says from here on.
-use mathlib.Core.Path.{_≡_, sym, _∙_}
+use mathlib.Core.Path.{_≡_, sym, ap, _∙_}
 use Prim.Native.Nat.{ℕ, _-_, _≤_}
 use native.Mathlib.Omega.{arith}
 use lib.ListN.{length}
 use denote.Ref.{now}
-use Rattle.rules.specs.Laws.Tokens.{item-ahead}
-use Rattle.rules.specs.Laws.Tabled.{propsAt}
-use Rattle.cpus.specs.Registers.{regIn}
-use Rattle.cpus.proofs.Registers.{regAt, reg-first, reg-nowhere, reg-stop, reg-value, reg-done, reg-on}
-use borrow.Author.Needs.{needs}
+use Rattle.rules.specs.Octets.{Bytes, ascii, same}
 use Rattle.rules.specs.Blob.{blockOf}
+use Rattle.rules.specs.Laws.Tabled.{propsAt}
+use Rattle.tokens.proofs.Properties.{behind-inside, here-ahead}
+use Rattle.cpus.specs.Registers.{meaning, registerIn, regIn}
+use Rattle.cpus.proofs.Registers.{regAt, reg-first, reg-end, reg-value, reg-on}
+use borrow.Author.Needs.{needs}
 use Rattle.cpus.proofs.register.reg_of.Statement.{statement}
 use Rattle.cpus.proofs.register.reg_of.Tie as tie
 
 abbrev Inv-loop : tie.InvT-loop
-Inv-loop structure strings begin first at₀ at =
+Inv-loop structure strings begin at₀ reg at =
     (at ≤ length structure) × ((p : ℕ) → regIn (propsAt (blockOf p structure strings) begin) ≡ regAt (blockOf p structure strings) at)
 
 abbrev μ-loop : tie.MeasureT-loop
-μ-loop structure strings begin first at₀ at = length structure - at
+μ-loop structure strings begin at₀ reg at = length structure - at
 
-token-at-requires : tie.Need-token-at-requires Inv-loop μ-loop
-token-at-requires c κs = search needs
-
-enum-known-first : tie.Need-enum-known-first Inv-loop μ-loop
-enum-known-first c = search needs
-
-returns : tie.Need-returns Inv-loop μ-loop
-returns c = λ p. sym (reg-nowhere (blockOf p (now (c .before .before .before .before .args .structure)) (now (c .before .before .before .before .args .strings))) (c .before .before .before .before .args .begin) (c .before .token-at .result) (c .before .token-at .ensures) (c .match .keys2))
+behind-requires : tie.Need-behind-requires Inv-loop μ-loop
+behind-requires c κs = search needs
 
 loop-holds : tie.Need-loop-holds Inv-loop μ-loop
-loop-holds c = (
-  item-ahead (now (c .before .before .before .before .before .before .args .structure)) (c .before .before .before .before .before .before .args .begin) (c .before .before .before .token-at .result) (c .before .first .given .0 .0) (c .before .first .given .0 .1 .0) (c .before .before .before .token-at .ensures) (c .before .first .given .1) .1,
-  λ p. reg-first (blockOf p (now (c .before .before .before .before .before .before .args .structure)) (now (c .before .before .before .before .before .before .args .strings))) (c .before .before .before .before .before .before .args .begin) (c .before .before .before .token-at .result) (c .before .before .before .token-at .ensures) (c .before .first .given .0 .0) (c .before .first .given .0 .1 .0) (c .before .first .given .1),
-)
+loop-holds c =
+    let a = c .before .before .before .args in
+    (omega (arith, c .behind .ensures, behind-inside (now (a .structure)) (a .begin)), λ p. reg-first (blockOf p (now (a .structure)) (now (a .strings))) (a .begin) (c .behind .result) (c .behind .ensures))
 
-token-at-requires-2 : tie.Need-token-at-requires-2 Inv-loop μ-loop
-token-at-requires-2 c κs = search needs
+property-at-requires : tie.Need-property-at-requires Inv-loop μ-loop
+property-at-requires c κs = search needs
 
-enum-known-kind : tie.Need-enum-known-kind Inv-loop μ-loop
-enum-known-kind c = search needs
-
-returns-2 : tie.Need-returns-2 Inv-loop μ-loop
-returns-2 c = λ p. sym (c .before .before .loop .inv .1 p ∙ reg-stop (blockOf p (now (c .before .before .before .before .before .before .before .before .before .args .structure)) (now (c .before .before .before .before .before .before .before .before .before .args .strings))) (c .before .before .loop .at) (c .before .token-at2 .result) (c .before .token-at2 .ensures) (c .before .before .loop .inv .0) (c .match2 .keys2))
-
-after-token-requires : tie.Need-after-token-requires Inv-loop μ-loop
-after-token-requires c κs = search needs
-
-enum-known-v : tie.Need-enum-known-v Inv-loop μ-loop
-enum-known-v c = search needs
-
-returns-3 : tie.Need-returns-3 Inv-loop μ-loop
-returns-3 c = λ p. sym (c .before .before .before .before .before .before .before .before .loop .inv .1 p ∙ reg-value (blockOf p (now (c .before .before .before .before .before .before .before .before .before .before .before .before .before .before .before .args .structure)) (now (c .before .before .before .before .before .before .before .before .before .before .before .before .before .before .before .args .strings))) (c .before .before .before .before .before .before .before .before .loop .at) (c .before .before .before .before .before .before .before .token-at2 .result) (c .before .before .before .before .before .before .before .token-at2 .ensures) (c .before .before .before .before .before .before .before .before .loop .inv .0) (c .before .before .before .before .before .kind .given .0 .0) (c .before .before .before .before .before .kind .given .0 .1 .0) (c .before .before .before .before .before .kind .given .1) (c .before .before .before .after-token .result) (c .before .before .before .after-token .ensures) (c .before .v .given .0 .0) (c .before .v .given .1))
+enum-known-len : tie.Need-enum-known-len Inv-loop μ-loop
+enum-known-len c = search needs
 
 enum-told : tie.Need-enum-told Inv-loop μ-loop
 enum-told c = search needs
 
-returns-4 : tie.Need-returns-4 Inv-loop μ-loop
-returns-4 c = λ p. sym (c .before .before .before .before .before .before .before .loop .inv .1 p ∙ reg-done (blockOf p (now (c .before .before .before .before .before .before .before .before .before .before .before .before .before .before .args .structure)) (now (c .before .before .before .before .before .before .before .before .before .before .before .before .before .before .args .strings))) (c .before .before .before .before .before .before .before .loop .at) (c .before .before .before .before .before .before .token-at2 .result) (c .before .before .before .before .before .before .token-at2 .ensures) (c .before .before .before .before .before .before .before .loop .inv .0) (c .before .before .before .before .kind .given .0 .0) (c .before .before .before .before .kind .given .0 .1 .0) (c .before .before .before .before .kind .given .1) (c .before .before .after-token .result) (c .before .before .after-token .ensures) (c .enum-told .given .1))
+returns : tie.Need-returns Inv-loop μ-loop
+returns c =
+    let a = c .before .before .before .before .before .before .before .args in
+    λ p. sym (c .before .before .before .loop .inv .1 p ∙ reg-end (blockOf p (now (a .structure)) (now (a .strings))) (c .before .before .before .loop .at) (c .before .before .before .loop .inv .0) (c .before .before .property-at .result) (c .before .before .property-at .ensures) (c .enum-told .given .1))
 
-enum-told-2 : tie.Need-enum-told-2 Inv-loop μ-loop
-enum-told-2 c = search needs
+slice-aggregate-same : tie.Need-slice-aggregate-same Inv-loop μ-loop
+slice-aggregate-same c = search needs
+
+string-at-requires : tie.Need-string-at-requires Inv-loop μ-loop
+string-at-requires c κs = search needs
+
+same-requires : tie.Need-same-requires Inv-loop μ-loop
+same-requires c κs = search needs
+
+part-requires : tie.Need-part-requires Inv-loop μ-loop
+part-requires c κs = search needs
+
+register-in-requires : tie.Need-register-in-requires Inv-loop μ-loop
+register-in-requires c κs = search needs
+
+returns-2 : tie.Need-returns-2 Inv-loop μ-loop
+unfolding ascii
+returns-2 c =
+    let a = c .before .before .before .before .before .before .before .before .before .before .before .before .before .before .args in
+    let k = c .before .before .before .before .before .before .before .len .given in
+    λ p. sym (c .before .before .before .before .before .before .before .before .before .before .loop .inv .1 p ∙ reg-value (blockOf p (now (a .structure)) (now (a .strings))) (c .before .before .before .before .before .before .before .before .before .before .loop .at) (c .before .before .before .before .before .before .before .before .before .before .loop .inv .0) (c .before .before .before .before .before .before .before .before .before .property-at .result) (c .before .before .before .before .before .before .before .before .before .property-at .ensures) (k .0 .0) (k .0 .1 .0) (k .0 .1 .1 .0) (k .0 .1 .1 .1 .0) (k .0 .1 .1 .1 .1 .0) (k .1)
+    (ap (same (ascii "reg")) (sym (c .before .before .before .before .string-at .ensures)) ∙ sym (c .before .before .before .same .ensures) ∙ c .before .before .if1 .taken)
+    ∙ sym (ap meaning (c .register-in .ensures ∙ ap registerIn (c .before .part .ensures))))
 
 loop-less : tie.Need-loop-less Inv-loop μ-loop
-loop-less c = omega (arith, item-ahead (now (c .before .before .before .before .before .before .before .before .before .before .before .before .before .before .args .structure)) (c .before .before .before .before .before .before .before .loop .at) (c .before .before .before .before .before .before .token-at2 .result) (c .before .before .before .before .kind .given .0 .0) (c .before .before .before .before .kind .given .0 .1 .0) (c .before .before .before .before .before .before .token-at2 .ensures) (c .before .before .before .before .kind .given .1))
+loop-less c =
+    let k = c .before .before .before .before .before .len .given in
+    omega (arith, here-ahead (now (c .before .before .before .before .before .before .before .before .before .before .before .before .args .structure)) (c .before .before .before .before .before .before .before .before .loop .at) (c .before .before .before .before .before .before .before .property-at .result) (c .before .before .before .before .before .before .before .property-at .ensures) (k .0 .0) (k .0 .1 .0) (k .0 .1 .1 .0) (k .0 .1 .1 .1 .0) (k .0 .1 .1 .1 .1 .0) (k .1))
 
 loop-again : tie.Need-loop-again Inv-loop μ-loop
-loop-again c = (
-  item-ahead (now (c .before .before .before .before .before .before .before .before .before .before .before .before .before .before .args .structure)) (c .before .before .before .before .before .before .before .loop .at) (c .before .before .before .before .before .before .token-at2 .result) (c .before .before .before .before .kind .given .0 .0) (c .before .before .before .before .kind .given .0 .1 .0) (c .before .before .before .before .before .before .token-at2 .ensures) (c .before .before .before .before .kind .given .1) .1,
-  λ p. c .before .before .before .before .before .before .before .loop .inv .1 p ∙ reg-on (blockOf p (now (c .before .before .before .before .before .before .before .before .before .before .before .before .before .before .args .structure)) (now (c .before .before .before .before .before .before .before .before .before .before .before .before .before .before .args .strings))) (c .before .before .before .before .before .before .before .loop .at) (c .before .before .before .before .before .before .token-at2 .result) (c .before .before .before .before .before .before .token-at2 .ensures) (c .before .before .before .before .before .before .before .loop .inv .0) (c .before .before .before .before .kind .given .0 .0) (c .before .before .before .before .kind .given .0 .1 .0) (c .before .before .before .before .kind .given .1) (c .before .before .after-token .result) (c .before .before .after-token .ensures) (c .enum-told2 .given .1),
-)
+unfolding ascii
+loop-again c =
+    let a = c .before .before .before .before .before .before .before .before .before .before .before .before .args in
+    let k = c .before .before .before .before .before .len .given in (
+      here-ahead (now (a .structure)) (c .before .before .before .before .before .before .before .before .loop .at) (c .before .before .before .before .before .before .before .property-at .result) (c .before .before .before .before .before .before .before .property-at .ensures) (k .0 .0) (k .0 .1 .0) (k .0 .1 .1 .0) (k .0 .1 .1 .1 .0) (k .0 .1 .1 .1 .1 .0) (k .1) .1,
+      λ p. c .before .before .before .before .before .before .before .before .loop .inv .1 p ∙ reg-on (blockOf p (now (a .structure)) (now (a .strings))) (c .before .before .before .before .before .before .before .before .loop .at) (c .before .before .before .before .before .before .before .before .loop .inv .0) (c .before .before .before .before .before .before .before .property-at .result) (c .before .before .before .before .before .before .before .property-at .ensures) (k .0 .0) (k .0 .1 .0) (k .0 .1 .1 .0) (k .0 .1 .1 .1 .0) (k .0 .1 .1 .1 .1 .0) (k .1)
+          (ap (same (ascii "reg")) (sym (c .before .before .string-at .ensures)) ∙ sym (c .before .same .ensures) ∙ c .if1 .left),
+    )
 
 pub reg-of-spec : {M : Type 1} → statement M
-reg-of-spec = tie.close (tie.spec Inv-loop μ-loop token-at-requires enum-known-first returns loop-holds token-at-requires-2 enum-known-kind returns-2 after-token-requires enum-known-v returns-3 enum-told returns-4 enum-told-2 loop-less loop-again)
+reg-of-spec = tie.close (tie.spec Inv-loop μ-loop behind-requires loop-holds property-at-requires enum-known-len enum-told returns slice-aggregate-same string-at-requires same-requires part-requires register-in-requires returns-2 loop-less loop-again)

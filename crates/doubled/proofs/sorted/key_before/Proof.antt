@@ -3,10 +3,8 @@ use mathlib.Core.Path.{ap, _∙_}
 use mathlib.Core.List.{List}
 use Prim.Native.Nat.{ℕ, _+_}
 use native.Mathlib.Omega.{arith}
-use lib.ListN.{getD}
 use denote.Ref.{now}
-use Rattle.rules.specs.Octets.{before, part}
-use Rattle.rules.specs.Events.{stringAt}
+use Rattle.rules.specs.Octets.{before}
 use Rattle.doubled.specs.Sorted.{chunkStart}
 use borrow.Author.Needs.{needs}
 use Rattle.doubled.proofs.sorted.key_before.Statement.{statement}
@@ -24,18 +22,14 @@ shared-slice-read-offset c = search needs
 cast-offset : tie.Need-cast-offset
 cast-offset c = omega (arith, c .shared-slice-known4 .given (chunkStart + c .before .before .before .before .args .i))
 
-nul-requires : tie.Need-nul-requires
-nul-requires c κs = search needs
-
-part-requires : tie.Need-part-requires
-part-requires c κs = search needs
+string-at-requires : tie.Need-string-at-requires
+string-at-requires c κs = search needs
 
 comes-before-requires : tie.Need-comes-before-requires
 comes-before-requires c κs = search needs
 
 returns : tie.Need-returns
-unfolding stringAt
-returns c = c .comes-before .ensures ∙ ap (λ (l : List ℕ). before l (now (c .before .before .before .before .before .before .before .args .name))) (c .before .part .ensures ∙ ap (λ (n : ℕ). part (now (c .before .before .before .before .before .before .before .args .strings)) (getD (now (c .before .before .before .before .before .before .before .args .work)) (chunkStart + c .before .before .before .before .before .before .before .args .i) 0) n) (c .before .before .nul .ensures))
+returns c = c .comes-before .ensures ∙ ap (λ (l : List ℕ). before l (now (c .before .before .before .before .before .before .args .name))) (c .before .string-at .ensures)
 
 pub key-before-spec : {M : Type 1} → statement M
-key-before-spec = tie.close (tie.spec add-offset mul-offset shared-slice-read-offset cast-offset nul-requires part-requires comes-before-requires returns)
+key-before-spec = tie.close (tie.spec add-offset mul-offset shared-slice-read-offset cast-offset string-at-requires comes-before-requires returns)

@@ -4,10 +4,9 @@ use Prim.Native.Nat.{ℕ, _+_, _-_}
 use native.Mathlib.Omega.{arith}
 use lib.ListN.{getD}
 use denote.Ref.{now}
-use Rattle.rules.specs.Laws.Kept.{node-word}
+use Rattle.rules.specs.Laws.Kept.{node-word, only-none, only-kept}
 use Rattle.listing.specs.State.{Apart, Piled}
 use Rattle.listing.specs.Walk.{workFrom}
-use Rattle.listing.proofs.Parts.{apart-refl, apart-kept}
 use Rattle.listing.proofs.Walks.{top-small, popped, walk-turn, walk-apart, walk-less, walked}
 use borrow.Author.Needs.{needs}
 use Rattle.rules.specs.Blob.{blockOf}
@@ -25,7 +24,7 @@ abbrev μ-loop : tie.MeasureT-loop
 μ-loop structure strings place work₀ count listed starts n₀ s₀ work n s = count + s - n
 
 loop-holds : tie.Need-loop-holds Inv-loop μ-loop
-loop-holds c = (apart-refl (now (c .before .before .before .args .work)), c .before .before .before .pre .1, refl)
+loop-holds c = (only-none (now (c .before .before .before .args .work)), c .before .before .before .pre .1, refl)
 
 sub-top : tie.Need-sub-top Inv-loop μ-loop
 sub-top c = search needs
@@ -45,7 +44,7 @@ visit-requires : tie.Need-visit-requires Inv-loop μ-loop
 visit-requires c κs =
     let a = c .before .before .before .before .before .before .before .before .args in
     let p = c .before .before .before .before .loop .inv .1 in (
-      apart-kept (blockOf (a .place) (now (a .structure)) (now (a .strings))) (now (a .work)) (c .before .before .before .before .loop .work) (a .count) (c .before .before .before .before .loop .inv .0) (c .before .before .before .before .before .before .before .before .pre .0),
+      only-kept (blockOf (a .place) (now (a .structure)) (now (a .strings))) (a .count) (omega arith) (c .before .before .before .before .loop .inv .0) (c .before .before .before .before .before .before .before .before .pre .0),
       (
         popped (c .before .before .before .before .loop .work) (a .count) (c .before .before .before .before .loop .n) (c .before .before .before .before .loop .s) p (c .before .before .before .loop-test .taken),
         (let e : c .before .word-of .result ≡ getD (c .before .before .before .before .loop .work) _ 0 = c .before .word-of .ensures ∙ ap (λ (k : ℕ). getD (c .before .before .before .before .loop .work) (k + (c .before .before .before .before .loop .s - 1)) 0) stack-at in

@@ -1,9 +1,5 @@
 -- `after_token` meets its contract: a case for each kind.
-use mathlib.Core.Path.{sym, ap, ap₂, _∙_}
-use Prim.Native.Nat.{ℕ}
-use denote.Ref.{now}
-use Rattle.rules.specs.Octets.{part}
-use Rattle.rules.specs.Events.{stringAt}
+use mathlib.Core.Path.{sym, ap₂, _∙_}
 use Rattle.passes.specs.Cells.{onProperty}
 use Rattle.passes.proofs.Watched.{known}
 use borrow.Author.Needs.{needs}
@@ -28,14 +24,11 @@ enum-told-4 c = search needs
 returns : tie.Need-returns
 returns c = simp (c .before .before .before .kind .given .1, c .enum-told4 .given .1)
 
-nul-requires : tie.Need-nul-requires
-nul-requires c κs = search needs
+string-at-requires : tie.Need-string-at-requires
+string-at-requires c κs = search needs
 
 part-requires : tie.Need-part-requires
 part-requires c κs = search needs
-
-part-requires-2 : tie.Need-part-requires-2
-part-requires-2 c κs = search needs
 
 property-requires : tie.Need-property-requires
 property-requires c κs = search needs
@@ -50,12 +43,11 @@ returns-4 : tie.Need-returns-4
 returns-4 c = simp (c .enum-told3 .given .1)
 
 returns-5 : tie.Need-returns-5
-unfolding stringAt
 returns-5 c =
-    simp (c .before .before .before .before .before .before .kind .given .1)
+    simp (c .before .before .before .before .before .kind .given .1)
     (c .property .ensures
-    ∙ ap₂ (onProperty (c .before .before .before .before .before .before .before .before .before .before .args .seen)) (c .before .before .part .ensures ∙ ap (λ (n : ℕ). part (now (c .before .before .before .before .before .before .before .before .before .before .args .strings)) (c .before .before .before .before .before .before .kind .given .0 .1 .0) n) (c .before .before .before .nul .ensures)) (c .before .part2 .ensures)
-    ∙ sym (known (c .before .before .before .before .before .before .before .before .before .before .args .seen) _ _ (c .before .before .before .before .match2 .keys2)))
+    ∙ ap₂ (onProperty (c .before .before .before .before .before .before .before .before .before .args .seen)) (c .before .before .string-at .ensures) (c .before .part .ensures)
+    ∙ sym (known (c .before .before .before .before .before .before .before .before .before .args .seen) _ _ (c .before .before .before .match2 .keys2)))
 
 pub after-token-spec : {M : Type 1} → statement M
-after-token-spec = tie.close (tie.spec enum-told enum-told-2 enum-told-3 enum-known-kind enum-told-4 returns nul-requires part-requires part-requires-2 property-requires returns-2 returns-3 returns-4 returns-5)
+after-token-spec = tie.close (tie.spec enum-told enum-told-2 enum-told-3 enum-known-kind enum-told-4 returns string-at-requires part-requires property-requires returns-2 returns-3 returns-4 returns-5)

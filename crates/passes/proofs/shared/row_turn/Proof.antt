@@ -4,8 +4,7 @@ use mathlib.Core.List.{List}
 use Prim.Native.Nat.{ℕ}
 use denote.Ref.{now}
 use borrow.Author.Tests.{not-true, not-false}
-use Rattle.rules.specs.Octets.{part, wordAt}
-use Rattle.rules.specs.Events.{stringAt}
+use Rattle.rules.specs.Octets.{wordAt}
 use Rattle.passes.proofs.Phandles.{turn-begin, turn-end, turn-nop, turn-shut, turn-other, turn-give}
 use borrow.Author.Needs.{needs}
 use Rattle.passes.proofs.shared.row_turn.Statement.{statement}
@@ -32,21 +31,17 @@ enum-known-kind c = search needs
 returns : tie.Need-returns
 returns c = turn-shut (now (c .before .before .before .before .before .before .before .args .s)) (now (c .before .before .before .before .before .before .before .args .strings)) (c .before .before .before .before .before .before .before .args .kind) (c .before .before .before .before .before .before .before .args .wants) (c .before .before .before .before .before .before .before .args .number) (now (c .before .before .before .before .before .before .before .args .work)) (c .before .before .kind .given .0 .0) (c .before .before .kind .given .0 .1 .0) (c .before .before .kind .given .0 .1 .1 .0) (c .before .before .kind .given .1) (not-true _ (c .if1 .taken))
 
-nul-requires : tie.Need-nul-requires
-nul-requires c κs = search needs
+string-at-requires : tie.Need-string-at-requires
+string-at-requires c κs = search needs
+
+is-phandle-name-requires : tie.Need-is-phandle-name-requires
+is-phandle-name-requires c κs = search needs
+
+returns-2 : tie.Need-returns-2
+returns-2 c = turn-other (now (c .before .before .before .before .before .before .before .before .before .before .args .s)) (now (c .before .before .before .before .before .before .before .before .before .before .args .strings)) (c .before .before .before .before .before .before .before .before .before .before .args .kind) (c .before .before .before .before .before .before .before .before .before .before .args .wants) (c .before .before .before .before .before .before .before .before .before .before .args .number) (now (c .before .before .before .before .before .before .before .before .before .before .args .work)) (c .before .before .before .before .before .kind .given .0 .0) (c .before .before .before .before .before .kind .given .0 .1 .0) (c .before .before .before .before .before .kind .given .0 .1 .1 .0) (c .before .before .before .before .before .kind .given .1) (not-false _ (c .before .before .before .if1 .left)) (c .before .before .string-at .result .now) (c .before .before .string-at .ensures) (sym (c .before .is-phandle-name .ensures) ∙ not-true _ (c .if2 .taken))
 
 part-requires : tie.Need-part-requires
 part-requires c κs = search needs
-
-phandle-name-requires : tie.Need-phandle-name-requires
-phandle-name-requires c κs = search needs
-
-returns-2 : tie.Need-returns-2
-unfolding stringAt
-returns-2 c = turn-other (now (c .before .before .before .before .before .before .before .before .before .before .before .args .s)) (now (c .before .before .before .before .before .before .before .before .before .before .before .args .strings)) (c .before .before .before .before .before .before .before .before .before .before .before .args .kind) (c .before .before .before .before .before .before .before .before .before .before .before .args .wants) (c .before .before .before .before .before .before .before .before .before .before .before .args .number) (now (c .before .before .before .before .before .before .before .before .before .before .before .args .work)) (c .before .before .before .before .before .before .kind .given .0 .0) (c .before .before .before .before .before .before .kind .given .0 .1 .0) (c .before .before .before .before .before .before .kind .given .0 .1 .1 .0) (c .before .before .before .before .before .before .kind .given .1) (not-false _ (c .before .before .before .before .if1 .left)) (c .before .before .part .result .now) (c .before .before .part .ensures ∙ ap (λ (n : ℕ). part (now (c .before .before .before .before .before .before .before .before .before .before .before .args .strings)) (c .before .before .before .before .before .before .kind .given .0 .1 .0) n) (c .before .before .before .nul .ensures)) (sym (c .before .phandle-name .ensures) ∙ not-true _ (c .if2 .taken))
-
-part-requires-2 : tie.Need-part-requires-2
-part-requires-2 c κs = search needs
 
 word-requires : tie.Need-word-requires
 word-requires c κs = search needs
@@ -67,8 +62,7 @@ same-length : tie.Need-same-length
 same-length c = search needs
 
 returns-6 : tie.Need-returns-6
-unfolding stringAt
-returns-6 c = turn-give (now (c .before .before .before .before .before .before .before .before .before .before .before .before .before .before .before .before .before .args .s)) (now (c .before .before .before .before .before .before .before .before .before .before .before .before .before .before .before .before .before .args .strings)) (c .before .before .before .before .before .before .before .before .before .before .before .before .before .before .before .before .before .args .kind) (c .before .before .before .before .before .before .before .before .before .before .before .before .before .before .before .before .before .args .wants) (c .before .before .before .before .before .before .before .before .before .before .before .before .before .before .before .before .before .args .number) (now (c .before .before .before .before .before .before .before .before .before .before .before .before .before .before .before .before .before .args .work)) (c .before .before .before .before .before .before .before .before .before .before .before .before .kind .given .0 .0) (c .before .before .before .before .before .before .before .before .before .before .before .before .kind .given .0 .1 .0) (c .before .before .before .before .before .before .before .before .before .before .before .before .kind .given .0 .1 .1 .0) (c .before .before .before .before .before .before .before .before .before .before .before .before .kind .given .1) (not-false _ (c .before .before .before .before .before .before .before .before .before .before .if1 .left)) (c .before .before .before .before .before .before .before .before .part .result .now) (c .before .before .before .before .before .before .before .before .part .ensures ∙ ap (λ (n : ℕ). part (now (c .before .before .before .before .before .before .before .before .before .before .before .before .before .before .before .before .before .args .strings)) (c .before .before .before .before .before .before .before .before .before .before .before .before .kind .given .0 .1 .0) n) (c .before .before .before .before .before .before .before .before .before .nul .ensures)) (c .before .before .before .before .word .result) (c .before .before .give .result) (c .before .before .give .last .0) (sym (c .before .before .before .before .before .before .before .phandle-name .ensures) ∙ not-false _ (c .before .before .before .before .before .before .if2 .left)) (c .before .before .before .before .word .ensures ∙ ap (λ (l : List ℕ). wordAt l 0) (c .before .before .before .before .before .part2 .ensures)) (c .before .before .give .ensures)
+returns-6 c = turn-give (now (c .before .before .before .before .before .before .before .before .before .before .before .before .before .before .before .before .args .s)) (now (c .before .before .before .before .before .before .before .before .before .before .before .before .before .before .before .before .args .strings)) (c .before .before .before .before .before .before .before .before .before .before .before .before .before .before .before .before .args .kind) (c .before .before .before .before .before .before .before .before .before .before .before .before .before .before .before .before .args .wants) (c .before .before .before .before .before .before .before .before .before .before .before .before .before .before .before .before .args .number) (now (c .before .before .before .before .before .before .before .before .before .before .before .before .before .before .before .before .args .work)) (c .before .before .before .before .before .before .before .before .before .before .before .kind .given .0 .0) (c .before .before .before .before .before .before .before .before .before .before .before .kind .given .0 .1 .0) (c .before .before .before .before .before .before .before .before .before .before .before .kind .given .0 .1 .1 .0) (c .before .before .before .before .before .before .before .before .before .before .before .kind .given .1) (not-false _ (c .before .before .before .before .before .before .before .before .before .if1 .left)) (c .before .before .before .before .before .before .before .before .string-at .result .now) (c .before .before .before .before .before .before .before .before .string-at .ensures) (c .before .before .before .before .word .result) (c .before .before .give .result) (c .before .before .give .last .0) (sym (c .before .before .before .before .before .before .before .is-phandle-name .ensures) ∙ not-false _ (c .before .before .before .before .before .before .if2 .left)) (c .before .before .before .before .word .ensures ∙ ap (λ (l : List ℕ). wordAt l 0) (c .before .before .before .before .before .part .ensures)) (c .before .before .give .ensures)
 
 pub row-turn-spec : {M : Type 1} → statement M
-row-turn-spec = tie.close (tie.spec enum-told next-node-requires enum-told-2 next-node-requires-2 enum-told-3 enum-known-kind returns nul-requires part-requires phandle-name-requires returns-2 part-requires-2 word-requires give-requires returns-3 returns-4 returns-5 same-length returns-6)
+row-turn-spec = tie.close (tie.spec enum-told next-node-requires enum-told-2 next-node-requires-2 enum-told-3 enum-known-kind returns string-at-requires is-phandle-name-requires returns-2 part-requires word-requires give-requires returns-3 returns-4 returns-5 same-length returns-6)

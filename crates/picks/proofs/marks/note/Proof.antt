@@ -6,7 +6,8 @@ use native.Mathlib.Omega.{arith}
 use denote.Ref.{now}
 use Rattle.rules.specs.Laws.Kept.{node-word, word-in-part, put-in-part}
 use Rattle.rules.specs.Laws.Constants.{marks-at, list-at}
-use Rattle.picks.specs.Marks.{Noted, listIn, Keeps}
+use Rattle.rules.specs.Space.{listIn}
+use Rattle.picks.specs.Marks.{Noted, Keeps}
 use Rattle.picks.proofs.Marking.{noted-first, node-inside, noted-keeps, noted-more, noted-done}
 use borrow.Author.Needs.{needs}
 use Rattle.picks.proofs.marks.note.Statement.{statement}

@@ -1,4 +1,4 @@
--- `cells_name` meets its contract: each comparison in turn.
+-- `is_cells_name` meets its contract: each comparison in turn.
 use mathlib.Core.Path.{sym, _∙_}
 use denote.Ref.{now}
 use Rattle.rules.specs.Octets.{ascii}
@@ -6,8 +6,8 @@ use Rattle.rules.specs.Tree.{among, cellsNames}
 use Rattle.rules.specs.Laws.Tests.{or-nothing}
 use Rattle.passes.proofs.Watched.{none-of}
 use borrow.Author.Needs.{needs}
-use Rattle.passes.proofs.words.cells_name.Statement.{statement}
-use Rattle.passes.proofs.words.cells_name.Tie as tie
+use Rattle.passes.proofs.words.is_cells_name.Statement.{statement}
+use Rattle.passes.proofs.words.is_cells_name.Tie as tie
 
 byte-requires : tie.Need-byte-requires
 byte-requires c κs = search needs
@@ -155,5 +155,5 @@ returns-15 : tie.Need-returns-15
 unfolding among cellsNames ascii
 returns-15 c = simp (← c .before .before .before .before .before .before .before .before .before .before .before .before .before .before .before .before .before .before .before .before .before .before .before .before .before .before .before .before .before .before .before .before .before .before .before .before .before .before .before .same .ensures, c .before .before .before .before .before .before .before .before .before .before .before .before .before .before .before .before .before .before .before .before .before .before .before .before .before .before .before .before .before .before .before .before .before .before .before .before .before .before .if2 .left, ← c .before .before .before .before .before .before .before .before .before .before .before .before .before .before .before .before .before .before .before .before .before .before .before .before .before .before .before .before .before .before .before .before .before .before .before .before .same2 .ensures, c .before .before .before .before .before .before .before .before .before .before .before .before .before .before .before .before .before .before .before .before .before .before .before .before .before .before .before .before .before .before .before .before .before .before .before .if3 .left, ← c .before .before .before .before .before .before .before .before .before .before .before .before .before .before .before .before .before .before .before .before .before .before .before .before .before .before .before .before .before .before .before .before .before .same3 .ensures, c .before .before .before .before .before .before .before .before .before .before .before .before .before .before .before .before .before .before .before .before .before .before .before .before .before .before .before .before .before .before .before .before .if4 .left, ← c .before .before .before .before .before .before .before .before .before .before .before .before .before .before .before .before .before .before .before .before .before .before .before .before .before .before .before .before .before .before .same4 .ensures, c .before .before .before .before .before .before .before .before .before .before .before .before .before .before .before .before .before .before .before .before .before .before .before .before .before .before .before .before .before .if5 .left, ← c .before .before .before .before .before .before .before .before .before .before .before .before .before .before .before .before .before .before .before .before .before .before .before .before .before .before .before .same5 .ensures, c .before .before .before .before .before .before .before .before .before .before .before .before .before .before .before .before .before .before .before .before .before .before .before .before .before .before .if6 .left, ← c .before .before .before .before .before .before .before .before .before .before .before .before .before .before .before .before .before .before .before .before .before .before .before .before .same6 .ensures, c .before .before .before .before .before .before .before .before .before .before .before .before .before .before .before .before .before .before .before .before .before .before .before .if7 .left, ← c .before .before .before .before .before .before .before .before .before .before .before .before .before .before .before .before .before .before .before .before .before .same7 .ensures, c .before .before .before .before .before .before .before .before .before .before .before .before .before .before .before .before .before .before .before .before .if8 .left, ← c .before .before .before .before .before .before .before .before .before .before .before .before .before .before .before .before .before .before .same8 .ensures, c .before .before .before .before .before .before .before .before .before .before .before .before .before .before .before .before .before .if9 .left, ← c .before .before .before .before .before .before .before .before .before .before .before .before .before .before .before .same9 .ensures, c .before .before .before .before .before .before .before .before .before .before .before .before .before .before .if10 .left, ← c .before .before .before .before .before .before .before .before .before .before .before .before .same10 .ensures, c .before .before .before .before .before .before .before .before .before .before .before .if11 .left, ← c .before .before .before .before .before .before .before .before .before .same11 .ensures, c .before .before .before .before .before .before .before .before .if12 .left, ← c .before .before .before .before .before .before .same12 .ensures, c .before .before .before .before .before .if13 .left, ← c .before .before .before .same13 .ensures, c .before .before .if14 .left, ← c .same14 .ensures, or-nothing)
 
-pub cells-name-spec : {M : Type 1} → statement M
-cells-name-spec = tie.close (tie.spec byte-requires returns slice-aggregate-same same-requires returns-2 slice-aggregate-same-2 same-requires-2 returns-3 slice-aggregate-same-3 same-requires-3 returns-4 slice-aggregate-same-4 same-requires-4 returns-5 slice-aggregate-same-5 same-requires-5 returns-6 slice-aggregate-same-6 same-requires-6 returns-7 slice-aggregate-same-7 same-requires-7 returns-8 slice-aggregate-same-8 same-requires-8 returns-9 slice-aggregate-same-9 same-requires-9 returns-10 slice-aggregate-same-10 same-requires-10 returns-11 slice-aggregate-same-11 same-requires-11 returns-12 slice-aggregate-same-12 same-requires-12 returns-13 slice-aggregate-same-13 same-requires-13 returns-14 slice-aggregate-same-14 same-requires-14 returns-15)
+pub is-cells-name-spec : {M : Type 1} → statement M
+is-cells-name-spec = tie.close (tie.spec byte-requires returns slice-aggregate-same same-requires returns-2 slice-aggregate-same-2 same-requires-2 returns-3 slice-aggregate-same-3 same-requires-3 returns-4 slice-aggregate-same-4 same-requires-4 returns-5 slice-aggregate-same-5 same-requires-5 returns-6 slice-aggregate-same-6 same-requires-6 returns-7 slice-aggregate-same-7 same-requires-7 returns-8 slice-aggregate-same-8 same-requires-8 returns-9 slice-aggregate-same-9 same-requires-9 returns-10 slice-aggregate-same-10 same-requires-10 returns-11 slice-aggregate-same-11 same-requires-11 returns-12 slice-aggregate-same-12 same-requires-12 returns-13 slice-aggregate-same-13 same-requires-13 returns-14 slice-aggregate-same-14 same-requires-14 returns-15)
