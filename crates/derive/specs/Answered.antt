@@ -4,21 +4,20 @@ use mathlib.Core.List.{List}
 use Prim.Native.Nat.{ℕ}
 use lib.ListN.{length, drop}
 use Rattle.rules.specs.Ceilings.{workWords}
-use Rattle.rules.specs.Octets.{Bytes, put, lay}
-use Rattle.rules.specs.Outcome.{Outcome, passes, gives, settled, _then_}
+use Rattle.rules.specs.Octets.{Bytes, put}
+use Rattle.rules.specs.Outcome.{Outcome, gives, settled, _then_}
 use Rattle.rules.specs.Tree.{Tree, frame}
 use Rattle.rules.specs.Reader.{treeRead}
 use Rattle.rules.specs.References.{edition1}
-use Rattle.rules.specs.Derivation.{Request, Derived, asked, requestJudged, roomJudged, listedPaths, listOf, guestOf}
+use Rattle.rules.specs.Derivation.{Request, Derived, requestJudged, roomJudged, listedPaths, listOf, guestOf}
+use Rattle.asked.specs.Judged as lists
 use Rattle.derive.specs.declared.Answer.{Answer}
 use Rattle.derive.specs.declared.judged.Checked.{Checked}
 use Rattle.derive.specs.Answers.{meaning, checked}
 
 -- a request judged: the answer, and, where it passes, the nodes configured
-pub record Checks (t : Tree) (q : Request) (old new : List ℕ) (r : Checked) : Type 0 where
-  pub answer : checked r ≡ (requestJudged t q then gives (length (asked (frame t) q .conf)))
-  pub nodes : requestJudged t q ≡ passes → new ≡ lay old 0 (asked (frame t) q .conf)
-  pub size : length new ≡ length old
+abbrev pub Checks : Tree → Request → (old new : List ℕ) → Checked → Type 0
+Checks t q old new r = lists.Checks (frame t) q (requestJudged t q) old new (checked r)
 
 -- 41 to 46, or the answer
 abbrev pub answered : (host : Bytes) → Request → (listRoom guestRoom : ℕ) → Outcome Derived

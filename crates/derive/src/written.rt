@@ -9,7 +9,7 @@ ghost use mathlib.Core.Path.{_≡_};
 ghost use mathlib.Core.Bool.{true, _&&_};
 ghost use Prim.Native.Nat.{min, _+_, _≤_};
 ghost use lib.Dec.{leb};
-ghost use lib.ListN.{length, take};
+ghost use lib.ListN.{length};
 ghost use Rattle.rules.specs.Ceilings.{blobCeiling};
 ghost use Rattle.rules.specs.Blob.{blockOf};
 ghost use Rattle.order.specs.Starts.{Asked};
@@ -90,40 +90,4 @@ pub fn written(
         list: listed,
         guest: copied,
     }
-}
-
-// The same, by the first n nodes of one slice and the first m of another.
-pub fn written_by(
-    structure: &[u8],
-    strings: &[u8],
-    place: usize,
-    work: &mut [u32],
-    count: usize,
-    conf: &[u32],
-    n: usize,
-    excl: &[u32],
-    m: usize,
-    ids: &[u64],
-    list: &mut [u8],
-    guest: &mut [u8],
-) -> Answer
-    requires { ⌜ (n ≤ length (now conf)) × (m ≤ length (now excl)) ⌝ }
-    requires { ⌜ Asked (blockOf place (now structure) (now strings)) (now work) count (take n (now conf)) ⌝ }
-    requires { ⌜ Whole (blockOf place (now structure) (now strings)) (now work) count ⌝ }
-    ensures { λ r. ⌜ Writes (blockOf place (now (structure .entry)) (now (strings .entry))) count (record { conf = take n (now (conf .entry)); excl = take m (now (excl .entry)); ids = now (ids .entry) }) (now (work .entry)) (now (work .exit)) (now (list .entry)) (now (list .exit)) (now (guest .entry)) (now (guest .exit)) r ⌝ }
-{
-    let c = &conf[..n];
-    let e = &excl[..m];
-    written(
-        structure,
-        strings,
-        place,
-        work,
-        count,
-        c,
-        e,
-        ids,
-        list,
-        guest,
-    )
 }

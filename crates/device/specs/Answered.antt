@@ -4,13 +4,14 @@ use mathlib.Core.List.{List}
 use Prim.Native.Nat.{ℕ}
 use lib.ListN.{length, drop}
 use Rattle.rules.specs.Ceilings.{workWords}
-use Rattle.rules.specs.Octets.{Bytes, put, lay}
-use Rattle.rules.specs.Outcome.{Outcome, Verdict, passes, gives, settled, _then_}
+use Rattle.rules.specs.Octets.{Bytes, put}
+use Rattle.rules.specs.Outcome.{Outcome, Verdict, gives, settled, _then_}
 use Rattle.rules.specs.Tree.{Tree, frame}
 use Rattle.rules.specs.Reader.{treeRead}
 use Rattle.rules.specs.References.{edition1}
-use Rattle.rules.specs.Derivation.{asked, listsJudged, configuredJudged, listedPaths, listOf}
+use Rattle.rules.specs.Derivation.{listsJudged, configuredJudged, listedPaths, listOf}
 use Rattle.rules.specs.Device.{wanted, Found, listRoomJudged}
+use Rattle.asked.specs.Judged as lists
 use Rattle.device.specs.declared.Answer.{Answer}
 use Rattle.device.specs.declared.judged.Checked.{Checked}
 use Rattle.device.specs.Answers.{meaning, checked}
@@ -20,10 +21,8 @@ unfoldable pub wantedJudged : Tree → (configured excluded : Bytes) → Verdict
 wantedJudged t configured excluded = listsJudged (wanted configured excluded) then configuredJudged (frame t) (wanted configured excluded)
 
 -- lists judged: the answer, and, where they pass, the nodes configured
-pub record Checks (t : Tree) (configured excluded : Bytes) (old new : List ℕ) (r : Checked) : Type 0 where
-  pub answer : checked r ≡ (wantedJudged t configured excluded then gives (length (asked (frame t) (wanted configured excluded) .conf)))
-  pub nodes : wantedJudged t configured excluded ≡ passes → new ≡ lay old 0 (asked (frame t) (wanted configured excluded) .conf)
-  pub size : length new ≡ length old
+abbrev pub Checks : Tree → (configured excluded : Bytes) → (old new : List ℕ) → Checked → Type 0
+Checks t configured excluded old new r = lists.Checks (frame t) (wanted configured excluded) (wantedJudged t configured excluded) old new (checked r)
 
 -- 41, 42, 45, or the answer
 abbrev pub answered : (host configured excluded : Bytes) → (listRoom : ℕ) → Outcome Found

@@ -2,7 +2,7 @@
 use Prim.Native.Nat.{ℕ}
 use Rattle.rules.specs.Outcome.{Outcome, gives, refuses}
 use Rattle.rules.specs.Device.{Found}
-use Rattle.reader.specs.Carried.{inside}
+use Rattle.reader.specs.Answers.{insideNumber, placeOf as readerPlace}
 use Rattle.device.specs.declared.Refusal.{Refusal}
 use Rattle.device.specs.declared.Refusal.the-variants.{NoSpace, Reader, Lists, Configured, List}
 use Rattle.device.specs.declared.Answer.{Answer}
@@ -10,12 +10,22 @@ use Rattle.device.specs.declared.Answer.the-variants.{Listed, Refused}
 use Rattle.device.specs.declared.judged.Checked.{Checked}
 use Rattle.device.specs.declared.judged.Checked.the-variants.{Nodes, Refused as Stops}
 
+abbrev pub numberOf : Refusal → ℕ
+numberOf NoSpace = 40
+numberOf (Reader r) = insideNumber r
+numberOf (Lists at) = 41
+numberOf (Configured at) = 42
+numberOf (List needed) = 45
+
+abbrev pub placeOf : Refusal → ℕ
+placeOf NoSpace = 0
+placeOf (Reader r) = readerPlace r
+placeOf (Lists at) = at
+placeOf (Configured at) = at
+placeOf (List needed) = needed
+
 abbrev pub refused : {A : Type 0} → Refusal → Outcome A
-refused NoSpace = refuses 40 0
-refused (Reader r) = inside r
-refused (Lists at) = refuses 41 at
-refused (Configured at) = refuses 42 at
-refused (List needed) = refuses 45 needed
+refused r = refuses (numberOf r) (placeOf r)
 
 abbrev pub meaning : Answer → Outcome Found
 meaning (Listed paths list) = gives (record { paths = paths; listLength = list })

@@ -7,7 +7,7 @@ use judged::Checked;
 use judged::lists;
 use rules::ENTRY_CEILING;
 use rules::WORK_WORDS;
-use written::written_by;
+use written::written;
 ghost use mathlib.Core.Path.{_≡_};
 ghost use lib.ListN.{length};
 ghost use Rattle.rules.specs.References.{edition1};
@@ -61,9 +61,8 @@ fn accepted(
     ensures { λ r. ⌜ Accepts (now (host .entry)) (now (configured .entry)) (now (excluded .entry)) (now (work .entry)) (now (work .exit)) (now (list .entry)) (now (list .exit)) r ⌝ }
 {
     let place = octets::word(host, 8) as usize;
-    let structure = octets::part(host, place, octets::word(host, 36) as usize);
-    let from = octets::word(host, 12) as usize;
-    let strings = octets::part(host, from, octets::word(host, 32) as usize);
+    let structure = octets::block(host, 8, 36);
+    let strings = octets::block(host, 12, 32);
     let mut conf = [0u32; ENTRY_CEILING];
     let checked = lists(
         structure,
@@ -79,16 +78,14 @@ fn accepted(
         Checked::Nodes(n) => {
             let mut excl = [0u32; ENTRY_CEILING];
             let m = asked::excluded(structure, place, work, count, excluded, &mut excl);
-            written_by(
+            written(
                 structure,
                 strings,
                 place,
                 work,
                 count,
-                &conf,
-                n,
-                &excl,
-                m,
+                octets::first_words(&conf, n),
+                octets::first_words(&excl, m),
                 list,
             )
         }

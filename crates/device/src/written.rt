@@ -4,8 +4,6 @@ use crate::Refusal;
 use listing::listed;
 use spelled::list_len;
 use spelled::list_out;
-ghost use Prim.Native.Nat.{_≤_};
-ghost use lib.ListN.{length, take};
 ghost use Rattle.rules.specs.Blob.{blockOf};
 ghost use Rattle.order.specs.Starts.{Asked};
 ghost use Rattle.device.specs.Written.{Writes};
@@ -34,26 +32,4 @@ pub fn written(
         paths: n,
         list: needed,
     }
-}
-
-// The same, by the first n nodes of one slice and the first m of another.
-pub fn written_by(
-    structure: &[u8],
-    strings: &[u8],
-    place: usize,
-    work: &mut [u32],
-    count: usize,
-    conf: &[u32],
-    n: usize,
-    excl: &[u32],
-    m: usize,
-    list: &mut [u8],
-) -> Answer
-    requires { ⌜ (n ≤ length (now conf)) × (m ≤ length (now excl)) ⌝ }
-    requires { ⌜ Asked (blockOf place (now structure) (now strings)) (now work) count (take n (now conf)) ⌝ }
-    ensures { λ r. ⌜ Writes (blockOf place (now (structure .entry)) (now (strings .entry))) count (take n (now (conf .entry))) (take m (now (excl .entry))) (now (work .entry)) (now (work .exit)) (now (list .entry)) (now (list .exit)) r ⌝ }
-{
-    let c = &conf[..n];
-    let e = &excl[..m];
-    written(structure, strings, place, work, count, c, e, list)
 }

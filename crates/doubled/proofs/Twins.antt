@@ -13,7 +13,7 @@ use denote.Enum.Declared.{tagOf}
 use borrow.Author.Tests.{eqb-true, eqb-false, eq-eqb, ne-eqb, lt-ltb, le-leb, lt-leb}
 use Rattle.rules.proofs.Token as tokened
 use Rattle.rules.specs.Ceilings.{nodeWords, nodeCeiling, workWords}
-use Rattle.rules.specs.Octets.{Bytes, byteAt, nulIn, same, begins}
+use Rattle.rules.specs.Octets.{Bytes, byteAt, lengthTo, nulIn, same, begins}
 use Rattle.rules.specs.Outcome.{Verdict, gives, refuses, passes, _then_, first}
 use Rattle.rules.specs.Blob.{Block, blockOf}
 use Rattle.rules.specs.Tokens.{tokenAt}
@@ -64,15 +64,15 @@ abbrev pub NoNul : Bytes → Type 0
 NoNul name = (i : ℕ) → i < length name → byteAt name i ≡ 0 → ⊥
 
 nul-starts : (r : Bytes) → byteAt r 0 ≡ 0 → nulIn r ≡ 0
-unfolding nulIn
+unfolding lengthTo
 nul-starts [] e = refl
-nul-starts (b ∷ r) e = rw (eq-eqb b 0 e, nulIn)
+nul-starts (b ∷ r) e = rw (eq-eqb b 0 e, lengthTo)
 
 nul-behind : (name r : Bytes) → NoNul name → byteAt r 0 ≡ 0 → nulIn (name ++ r) ≡ length name
-unfolding nulIn
+unfolding lengthTo
 nul-behind [] r h e = nul-starts r e
 nul-behind (b ∷ name) r h e =
-    rw (ne-eqb b 0 (h 0 (omega arith)), nulIn) (ap suc (nul-behind name r (λ i k. h (suc i) (omega arith)) e))
+    rw (ne-eqb b 0 (h 0 (omega arith)), lengthTo) (ap suc (nul-behind name r (λ i k. h (suc i) (omega arith)) e))
 
 -- the name up to the NUL
 abbrev upTo : Bytes → Bytes

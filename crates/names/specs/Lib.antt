@@ -1,1 +1,2 @@
--- What the tests of names promise is said in rules: Names.
+-- What the tests of names promise is said in rules: Names. Here: the characters of either kind of name.
+pub mod Chars

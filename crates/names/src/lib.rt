@@ -2,8 +2,9 @@
 use rules::NODE_NAME_MAX_LEN;
 use rules::PROPERTY_NAME_MAX_LEN;
 ghost use mathlib.Core.Path.{_≡_};
-ghost use Rattle.rules.specs.Names.{nodeChar, propertyChar, atSign, nodeNameValid, propertyNameValid, nodeNameReads, propertyNameReads};
+ghost use Rattle.rules.specs.Names.{nodeChar, propertyChar, nodeNameValid, propertyNameValid, nodeNameReads, propertyNameReads};
 ghost use Rattle.rules.specs.Lists.{every};
+ghost use Rattle.names.specs.Chars.{charOf};
 
 // How a character is judged is said in the next two functions, and nowhere else.
 
@@ -27,46 +28,28 @@ fn property_name_valid_char(c: u8) -> bool
     }
 }
 
-// Whether all of s may stand in a node name.
-fn node_name_chars(s: &[u8]) -> bool
-    ensures { λ r. ⌜ r ≡ every nodeChar (now (s .entry)) ⌝ }
+// Whether c may stand in a name: a property's, or else a node's.
+fn valid_char(c: u8, property: bool) -> bool
+    ensures { λ r. ⌜ r ≡ charOf property c ⌝ }
+{
+    if property {
+        return property_name_valid_char(c);
+    }
+    node_name_valid_char(c)
+}
+
+// Whether all of s may stand in a name: a property's, or else a node's.
+fn name_chars(s: &[u8], property: bool) -> bool
+    ensures { λ r. ⌜ r ≡ every (charOf property) (now (s .entry)) ⌝ }
 {
     let mut i = 0;
     while i < s.len() {
-        if !node_name_valid_char(s[i]) {
+        if !valid_char(s[i], property) {
             return false;
         }
         i += 1;
     }
     true
-}
-
-// Whether all of s may stand in a property name.
-fn property_name_chars(s: &[u8]) -> bool
-    ensures { λ r. ⌜ r ≡ every propertyChar (now (s .entry)) ⌝ }
-{
-    let mut i = 0;
-    while i < s.len() {
-        if !property_name_valid_char(s[i]) {
-            return false;
-        }
-        i += 1;
-    }
-    true
-}
-
-// Where the first `@` stands in s; its length where there is none.
-fn at_sign(s: &[u8]) -> usize
-    ensures { λ r. ⌜ r ≡ atSign (now (s .entry)) ⌝ }
-{
-    let mut i = 0;
-    while i < s.len() {
-        if s[i] == b'@' {
-            return i;
-        }
-        i += 1;
-    }
-    i
 }
 
 // Whether `name` is a node name, "node-name" or "node-name@unit-address": empty, or 1 to 31 characters before the `@`, and
@@ -78,19 +61,19 @@ pub fn node_name_valid(name: &[u8]) -> bool
     if name.len() == 0 {
         return true;
     }
-    let n = at_sign(name);
+    let n = octets::length_to(name, 0, b'@');
     if n == 0 {
         return false;
     }
     if NODE_NAME_MAX_LEN < n {
         return false;
     }
-    if !node_name_chars(&name[..n]) {
+    if !name_chars(&name[..n], false) {
         return false;
     }
     if n < name.len() {
         let unit_address = n + 1;
-        return node_name_chars(&name[unit_address..]);
+        return name_chars(&name[unit_address..], false);
     }
     true
 }
@@ -105,7 +88,7 @@ pub fn property_name_valid(name: &[u8]) -> bool
     if PROPERTY_NAME_MAX_LEN < name.len() {
         return false;
     }
-    property_name_chars(name)
+    name_chars(name, true)
 }
 
 // Whether the reader takes `name` for a node below the root: a node name that is not empty.

@@ -4,8 +4,8 @@ ghost use mathlib.Core.Path.{_≡_};
 ghost use mathlib.Core.List.{[], _∷_};
 ghost use Prim.Native.Nat.{_+_, _-_, _*_, _<_, min};
 ghost use lib.Dec.{ltb};
-ghost use lib.ListN.{getD, drop};
-ghost use Rattle.rules.specs.Octets.{byteAt, wordAt, longAt, nulIn, part, same, begins, ends, holds, lay, zeros, be32, be64};
+ghost use lib.ListN.{getD, take, drop};
+ghost use Rattle.rules.specs.Octets.{byteAt, wordAt, longAt, lengthTo, nulIn, part, same, begins, ends, holds, lay, zeros, be32, be64};
 ghost use Rattle.rules.specs.Events.{stringAt};
 
 // ---- reading
@@ -75,18 +75,26 @@ pub fn long(s: &[u8], at: usize) -> u64
     high * 4294967296
 }
 
-// How many bytes stand from a place on before the first NUL; all that are left where there is none, and 0 past the end.
-pub fn nul(s: &[u8], at: usize) -> usize
-    ensures { λ r. ⌜ r ≡ nulIn (drop at (now (s .entry))) ⌝ }
+// How many bytes stand from a place on before the first of this value; all that are left where there is none, and 0 past the
+// end.
+pub fn length_to(s: &[u8], at: usize, value: u8) -> usize
+    ensures { λ r. ⌜ r ≡ lengthTo value (drop at (now (s .entry))) ⌝ }
 {
     let mut end = at;
     while end < s.len() {
-        if s[end] == 0 {
+        if s[end] == value {
             return end - at;
         }
         end += 1;
     }
     end - at
+}
+
+// How many bytes stand from a place on before the first NUL; all that are left where there is none, and 0 past the end.
+pub fn nul(s: &[u8], at: usize) -> usize
+    ensures { λ r. ⌜ r ≡ nulIn (drop at (now (s .entry))) ⌝ }
+{
+    length_to(s, at, 0)
 }
 
 // The n bytes from a place on; those that there are, where there are fewer.
@@ -111,11 +119,29 @@ pub fn string_at(s: &[u8], at: usize) -> &[u8]
     part(s, at, nul(s, at))
 }
 
+// The bytes that two words say: the one at `from` where they begin, the one at `size` how many there are; those that there are,
+// where there are fewer.
+pub fn block(s: &[u8], from: usize, size: usize) -> &[u8]
+    ensures { λ r. ⌜ now r ≡ part (now (s .entry)) (wordAt (now (s .entry)) from) (wordAt (now (s .entry)) size) ⌝ }
+{
+    part(s, word(s, from) as usize, word(s, size) as usize)
+}
+
 // The word at an index; 0 past the end.
 pub fn word_of(d: &[u32], at: usize) -> u32
     ensures { λ r. ⌜ r ≡ getD (now (d .entry)) at 0 ⌝ }
 {
     if at < d.len() { d[at] } else { 0 }
+}
+
+// The first n words; all of them, where there are fewer.
+pub fn first_words(d: &[u32], n: usize) -> &[u32]
+    ensures { λ r. ⌜ now r ≡ take n (now (d .entry)) ⌝ }
+{
+    if d.len() <= n {
+        return d;
+    }
+    &d[..n]
 }
 
 // ---- comparing

@@ -6,12 +6,12 @@ use lib.ListN.{length, length-take}
 use Rattle.rules.specs.Octets.{Bytes, part, lay}
 use Rattle.rules.specs.Program.{printedRefusal}
 use Rattle.printed.specs.Text.{answerText, answer-short, refusal-short}
+use Rattle.derive.specs.Answers.{numberOf, placeOf}
 use Rattle.derive.specs.declared.Answer.{Answer}
 use Rattle.derive.specs.declared.Answer.the-variants as answer
 use Rattle.derive.specs.declared.Refusal.{Refusal}
 use Rattle.program.specs.declared.Ran.{Ran}
 use Rattle.program.specs.declared.Ran.the-variants.{Derived, Refused}
-use Rattle.told.specs.Told.{numberOf, placeOf}
 use Rattle.program.specs.Run.{textOf, ranOf}
 
 -- an answer's text is laid into a buffer

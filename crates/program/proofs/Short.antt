@@ -14,8 +14,8 @@ use Rattle.rules.specs.Program.{lineEnd, Line, linesFrom, linesOf, Said, decima
 use Rattle.rules.specs.Program as program
 use Rattle.rules.specs.Laws.Tests.{and-true}
 use Rattle.rules.specs.Laws.Tokens.{if-by}
-use Rattle.rules.specs.Laws.Octets.{begins-length}
-use Rattle.rules.specs.Laws.Program.{line-le, configured-split, excluded-split, named-split}
+use Rattle.rules.specs.Laws.Octets.{begins-length, to-le}
+use Rattle.rules.specs.Laws.Program.{configured-split, excluded-split, named-split}
 
 -- ---- a line
 
@@ -80,7 +80,7 @@ total-short f h (suc fuel) offset (b ∷ bs) =
     let n : ℕ = lineEnd (b ∷ bs) in
     let rest : Bytes = drop (n + 1) (b ∷ bs) in
     let k = total-short f h fuel (offset + n + 1) rest in
-    omega (arith, h (take n (b ∷ bs)), length-take-le n (b ∷ bs) (line-le (b ∷ bs)), length-drop (n + 1) (b ∷ bs), line-le (b ∷ bs))
+    omega (arith, h (take n (b ∷ bs)), length-take-le n (b ∷ bs) (to-le 10 (b ∷ bs)), length-drop (n + 1) (b ∷ bs), to-le 10 (b ∷ bs))
 
 -- the same where each takes four bytes with its newline
 total-fourth : (f : Said → ℕ) → ((text : Bytes) → 4 * f (lineSaid text) ≤ length text + 1) → (fuel offset : ℕ) (bs : Bytes) → 4 * total f (linesFrom fuel offset bs) ≤ length bs + 1
@@ -91,7 +91,7 @@ total-fourth f h (suc fuel) offset (b ∷ bs) =
     let n : ℕ = lineEnd (b ∷ bs) in
     let rest : Bytes = drop (n + 1) (b ∷ bs) in
     let k = total-fourth f h fuel (offset + n + 1) rest in
-    omega (arith, h (take n (b ∷ bs)), length-take-le n (b ∷ bs) (line-le (b ∷ bs)), length-drop (n + 1) (b ∷ bs), line-le (b ∷ bs))
+    omega (arith, h (take n (b ∷ bs)), length-take-le n (b ∷ bs) (to-le 10 (b ∷ bs)), length-drop (n + 1) (b ∷ bs), to-le 10 (b ∷ bs))
 
 configured-total : (ls : List Line) → length (configuredIn ls) ≡ total (λ (s : Said). length (configuredBy s [])) ls
 unfolding configuredIn total

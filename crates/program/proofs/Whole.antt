@@ -18,12 +18,11 @@ use Rattle.rules.specs.Laws.Tests.{by-test}
 use Rattle.rules.specs.Laws.Verdicts.{gives-refuses, then-passes, passes-then}
 use Rattle.rules.specs.Laws.Octets.{length-lay, lay-put}
 use Rattle.printed.specs.Text.{answerText, answer-printed}
-use Rattle.derive.specs.Answers.{meaning}
+use Rattle.derive.specs.Answers.{numberOf, placeOf, meaning}
 use Rattle.derive.specs.declared.Answer.{Answer}
 use Rattle.derive.specs.declared.Answer.the-variants as answer
 use Rattle.derive.specs.declared.Refusal.{Refusal}
 use Rattle.program.specs.declared.Ran.{Ran}
-use Rattle.told.specs.Told.{numberOf, placeOf, told}
 use Rattle.program.specs.Run.{outcomeIn, printedIn, answered, guestLeft, textOf, ranOf, front}
 use Rattle.program.proofs.Plain.{listed-plain}
 
@@ -87,7 +86,7 @@ module _ (host input : Bytes) (G : ℕ) (pi : inputJudged input ≡ passes) (ph 
   -- a refusal
   module _ (f : Refusal) (m : meaning (answer.Refused f) ≡ outcome) where
     refuses-so : outcome ≡ refuses (numberOf f) (placeOf f)
-    refuses-so = sym m ∙ told f
+    refuses-so = sym m
 
     refused-text : whole-text ≡ record { text = printedRefusal (numberOf f) (placeOf f); guest = none }
     refused-text = derives ∙ ap (printed edition1 host input) refuses-so

@@ -16,11 +16,11 @@ use Rattle.rules.specs.Derivation as derivation
 use Rattle.rules.specs.Program.{inputJudged, hostJudged, requestIn, Printed, printed, printedRefusal, programOutcome, program}
 use Rattle.rules.specs.Laws.Octets.{take-put, lay-put}
 use Rattle.printed.specs.Text.{answerText}
+use Rattle.derive.specs.Answers.{numberOf, placeOf}
 use Rattle.derive.specs.declared.Answer.{Answer}
 use Rattle.derive.specs.declared.Answer.the-variants as answer
 use Rattle.program.specs.declared.Ran.{Ran}
 use Rattle.program.specs.declared.Ran.the-variants.{Derived, Refused}
-use Rattle.told.specs.Told.{numberOf, placeOf}
 
 -- room for every text: a list, and two lines with a number each
 abbrev pub textRoom : ℕ

@@ -12,7 +12,7 @@ use Rattle.rules.specs.Blob.{headerIn, headerJudged, Block, blockIn, blockOf}
 use Rattle.rules.specs.Events.{shapeJudged}
 use Rattle.rules.specs.Tree.{Tree, doubledJudged, wordsJudged, sharedJudged}
 use Rattle.rules.specs.Reader.{treeRead, eventsRead, blobJudged, spaceJudged, read, rowsOf, spaceOf, tableOf, readWork}
-use Rattle.rules.specs.Laws.Verdicts.{then-passes, passes-then}
+use Rattle.rules.specs.Laws.Verdicts.{then-passes, passes-then, then-then, then-refuses}
 use Rattle.rules.specs.Laws.Blob.{Inside, header-inside}
 use Rattle.rules.specs.Laws.Reader.{startsOf, starts-length, table-fits, space-length, space-space, space-clear}
 use Rattle.rules.specs.Laws.Table.{rows-length, nodes-few, read-table}
@@ -25,87 +25,10 @@ use Rattle.shape.specs.declared.Answer.the-variants as walk
 use Rattle.shape.specs.Answers.{refused as shaped, meaning as walkMeaning}
 use Rattle.shape.specs.Shape.{Leaves as WalkLeaves, Shaped}
 use Rattle.reader.specs.declared.Refusal.{Refusal}
-use Rattle.reader.specs.declared.Refusal.the-variants.{NoSpace, Short, Magic, Total, Version, Layout, Shape, Name, Deep, Many, Doubled, Cells, Shared}
 use Rattle.reader.specs.declared.Answer.{Answer}
 use Rattle.reader.specs.declared.Answer.the-variants.{Nodes, Refused}
-use Rattle.reader.specs.Answers.{refused, meaning}
+use Rattle.reader.specs.Answers.{numberOf, placeOf, refused, meaning}
 use Rattle.reader.specs.Whole.{blockTree, Leaves, Tabled, Paired, Judged}
-
--- ---- refusals
-
--- a refusal is one of any judgement
-abbrev over : {A B : Type 0} → B → Outcome A → Outcome B
-over b (gives a) = gives b
-over b (refuses number place) = refuses number place
-
-refused-over : (A : Type 0) {B : Type 0} (b : B) (f : Refusal) → over b (refused {A = A} f) ≡ refused f
-refused-over A b NoSpace = refl
-refused-over A b Short = refl
-refused-over A b Magic = refl
-refused-over A b Total = refl
-refused-over A b Version = refl
-refused-over A b Layout = refl
-refused-over A b (Shape at) = refl
-refused-over A b (Name at) = refl
-refused-over A b (Deep at) = refl
-refused-over A b (Many at) = refl
-refused-over A b (Doubled at) = refl
-refused-over A b (Cells at) = refl
-refused-over A b (Shared at) = refl
-
-refused-gives : {X A : Type 0} (a : A) (f : Refusal) → refused f ≡ gives a → X
-refused-gives a NoSpace e = let z : _≡_ {A = ℕ} 0 1 = cc in absurd (omega arith)
-refused-gives a Short e = let z : _≡_ {A = ℕ} 0 1 = cc in absurd (omega arith)
-refused-gives a Magic e = let z : _≡_ {A = ℕ} 0 1 = cc in absurd (omega arith)
-refused-gives a Total e = let z : _≡_ {A = ℕ} 0 1 = cc in absurd (omega arith)
-refused-gives a Version e = let z : _≡_ {A = ℕ} 0 1 = cc in absurd (omega arith)
-refused-gives a Layout e = let z : _≡_ {A = ℕ} 0 1 = cc in absurd (omega arith)
-refused-gives a (Shape at) e = let z : _≡_ {A = ℕ} 0 1 = cc in absurd (omega arith)
-refused-gives a (Name at) e = let z : _≡_ {A = ℕ} 0 1 = cc in absurd (omega arith)
-refused-gives a (Deep at) e = let z : _≡_ {A = ℕ} 0 1 = cc in absurd (omega arith)
-refused-gives a (Many at) e = let z : _≡_ {A = ℕ} 0 1 = cc in absurd (omega arith)
-refused-gives a (Doubled at) e = let z : _≡_ {A = ℕ} 0 1 = cc in absurd (omega arith)
-refused-gives a (Cells at) e = let z : _≡_ {A = ℕ} 0 1 = cc in absurd (omega arith)
-refused-gives a (Shared at) e = let z : _≡_ {A = ℕ} 0 1 = cc in absurd (omega arith)
-
-then-refused : {A : Type 0} (f : Refusal) (v : Verdict) (a : A) → refused f ≡ (v then gives a) → v ≡ refused f
-then-refused f (gives u) a e = refused-gives a f e
-then-refused {A = A} f (refuses number place) a e = sym (ap (over tt) e) ∙ refused-over A tt f
-
-no-table : (f : Refusal) (t : Tree) → tableOf (refused f) t ≡ []
-no-table NoSpace t = refl
-no-table Short t = refl
-no-table Magic t = refl
-no-table Total t = refl
-no-table Version t = refl
-no-table Layout t = refl
-no-table (Shape at) t = refl
-no-table (Name at) t = refl
-no-table (Deep at) t = refl
-no-table (Many at) t = refl
-no-table (Doubled at) t = refl
-no-table (Cells at) t = refl
-no-table (Shared at) t = refl
-
--- a refusal comes first
-refused-then : {A : Type 0} (f : Refusal) (next : Outcome A) → (refused f then next) ≡ refused f
-refused-then NoSpace next = refl
-refused-then Short next = refl
-refused-then Magic next = refl
-refused-then Total next = refl
-refused-then Version next = refl
-refused-then Layout next = refl
-refused-then (Shape at) next = refl
-refused-then (Name at) next = refl
-refused-then (Deep at) next = refl
-refused-then (Many at) next = refl
-refused-then (Doubled at) next = refl
-refused-then (Cells at) next = refl
-refused-then (Shared at) next = refl
-
-then-assoc : {A : Type 0} (v o : Verdict) (x : Outcome A) → ((v then o) then x) ≡ (v then (o then x))
-then-assoc (gives u) o x = refl
-then-assoc (refuses number place) o x = refl
 
 -- ---- the blocks of a header that passes
 
@@ -169,12 +92,11 @@ module _ {block : Block} {old new : List ℕ} {answer : ShapeAnswer} {count : �
 pub shape-refused : {block : Block} {old new : List ℕ} {answer : ShapeAnswer} {g : ShapeRefusal} (f : Refusal) → refused {A = ℕ} f ≡ shaped {A = ℕ} g → answer ≡ walk.Refused g
     → Shaped block old new answer → Judged block old new (Refused f)
 shape-refused {block} {old} {new} {answer} {g} f q e s =
-    let v : shapeJudged block ≡ refused f = then-refused f (shapeJudged block) (length (blockTree block)) (q ∙ ap walkMeaning (sym e) ∙ s .judged) in
+    let v : shapeJudged block ≡ refused f = then-refuses (shapeJudged block) (length (blockTree block)) (numberOf f) (placeOf f) (q ∙ ap walkMeaning (sym e) ∙ s .judged) in
     record {
       judged =
           sym
-          (ap (λ (o : Verdict). o then doubledJudged (blockTree block) then wordsJudged (blockTree block) then sharedJudged (blockTree block) then gives (length (blockTree block))) v
-          ∙ refused-then f (doubledJudged (blockTree block) then wordsJudged (blockTree block) then sharedJudged (blockTree block) then gives (length (blockTree block))));
+          (ap (λ (o : Verdict). o then doubledJudged (blockTree block) then wordsJudged (blockTree block) then sharedJudged (blockTree block) then gives (length (blockTree block))) v);
       table = subst (λ (a : ShapeAnswer). WalkLeaves a (startsOf (blockTree block)) old new) e (s .table);
     }
 
@@ -209,10 +131,9 @@ module _ (b : Bytes) (work : List ℕ) {cleared : List ℕ} (room : workWords �
   unfolding blobJudged
   head-refused f g q e =
       let v : blobJudged b ≡ refused f =
-      ap (λ (o : Verdict). o then shapeJudged (blockIn b) then doubledJudged (treeRead b) then wordsJudged (treeRead b) then sharedJudged (treeRead b)) (e ∙ sym q)
-      ∙ refused-then f (shapeJudged (blockIn b) then doubledJudged (treeRead b) then wordsJudged (treeRead b) then sharedJudged (treeRead b)) in (
-        sym (read-is b (length work) room ∙ ap (λ (o : Verdict). o then gives (length (treeRead b))) v ∙ refused-then f (gives (length (treeRead b)))),
-        is-clear ∙ sym (work-is b work room ∙ ap (λ (o : Verdict). spaceOf (tableOf o (treeRead b)) work) v ∙ ap (λ (ws : List ℕ). spaceOf ws work) (no-table f (treeRead b))),
+      ap (λ (o : Verdict). o then shapeJudged (blockIn b) then doubledJudged (treeRead b) then wordsJudged (treeRead b) then sharedJudged (treeRead b)) (e ∙ sym q) in (
+        sym (read-is b (length work) room ∙ ap (λ (o : Verdict). o then gives (length (treeRead b))) v),
+        is-clear ∙ sym (work-is b work room ∙ ap (λ (o : Verdict). spaceOf (tableOf o (treeRead b)) work) v),
       )
 
   module _ {new : List ℕ} {answer : Answer} (head : headerJudged b ≡ passes) (j : Judged (blockIn b) cleared new answer) where
@@ -228,23 +149,23 @@ module _ (b : Bytes) (work : List ℕ) {cleared : List ℕ} (room : workWords �
     joined =
         j .judged
         ∙ sym
-        (then-assoc (shapeJudged (blockIn b)) (doubledJudged (treeRead b) then wordsJudged (treeRead b) then sharedJudged (treeRead b)) (gives (length (treeRead b)))
+        (then-then (shapeJudged (blockIn b)) (doubledJudged (treeRead b) then wordsJudged (treeRead b) then sharedJudged (treeRead b)) (gives (length (treeRead b)))
         ∙ ap (λ (o : Outcome ℕ). shapeJudged (blockIn b) then o)
-        (then-assoc (doubledJudged (treeRead b)) (wordsJudged (treeRead b) then sharedJudged (treeRead b)) (gives (length (treeRead b)))
-        ∙ ap (λ (o : Outcome ℕ). doubledJudged (treeRead b) then o) (then-assoc (wordsJudged (treeRead b)) (sharedJudged (treeRead b)) (gives (length (treeRead b))))))
+        (then-then (doubledJudged (treeRead b)) (wordsJudged (treeRead b) then sharedJudged (treeRead b)) (gives (length (treeRead b)))
+        ∙ ap (λ (o : Outcome ℕ). doubledJudged (treeRead b) then o) (then-then (wordsJudged (treeRead b)) (sharedJudged (treeRead b)) (gives (length (treeRead b))))))
 
     pub read-answer : meaning answer ≡ read b (length work)
     read-answer = joined ∙ sym (read-is b (length work) room ∙ ap (λ (o : Verdict). o then gives (length (treeRead b))) judged-is)
 
     pub read-refused : {f : Refusal} {last : List ℕ} → answer ≡ Refused f → last ≡ lay new 0 (zeros workWords) → workWords ≤ length new → last ≡ readWork b work
     read-refused {f} {last} e l long =
-        let v : blobJudged b ≡ refused f = judged-is ∙ then-refused f tests (length (treeRead b)) (ap meaning (sym e) ∙ joined) in
+        let v : blobJudged b ≡ refused f = judged-is ∙ then-refuses tests (length (treeRead b)) (numberOf f) (placeOf f) (ap meaning (sym e) ∙ joined) in
         l
         ∙ space-clear new long
         ∙ subst (λ (a : Answer). Leaves a (rowsOf (blockTree (blockIn b))) cleared new) e (j .table)
         ∙ sym clear-again
         ∙ is-clear
-        ∙ sym (work-is b work room ∙ ap (λ (o : Verdict). spaceOf (tableOf o (treeRead b)) work) v ∙ ap (λ (ws : List ℕ). spaceOf ws work) (no-table f (treeRead b)))
+        ∙ sym (work-is b work room ∙ ap (λ (o : Verdict). spaceOf (tableOf o (treeRead b)) work) v)
 
     pub read-nodes : {count : ℕ} → answer ≡ Nodes count → new ≡ readWork b work
     unfolding treeRead eventsRead

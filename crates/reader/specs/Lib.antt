@@ -1,4 +1,3 @@
 -- What the reader's answers say in the paper's numbers, and what the parts of the reader promise each other.
 pub mod Answers
-pub mod Carried
 pub mod Whole

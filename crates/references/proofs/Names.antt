@@ -12,7 +12,7 @@ use lib.Dec.{eqb, ltb}
 use lib.ListN.{length, take, drop, drop-of-length-le}
 use lib.Seq.{drop-cons, drop-drop}
 use borrow.Author.Tests.{lt-ltb, le-ltb}
-use Rattle.rules.specs.Octets.{Bytes, if_then_else_, byteAt, part, nulIn, ascii, same, begins, ends, holds}
+use Rattle.rules.specs.Octets.{Bytes, if_then_else_, byteAt, part, lengthTo, nulIn, ascii, same, begins, ends, holds}
 use Rattle.rules.specs.Events.{stringAt}
 use Rattle.rules.specs.Tree.{among}
 use Rattle.rules.specs.References.{referenceNames, isGpio, isReference, Row, cellsIn}
@@ -27,7 +27,7 @@ unfolding cut
 cut-none = refl
 
 nul-none : nulIn [] ≡ 0
-unfolding nulIn
+unfolding lengthTo
 nul-none = refl
 
 module _ (b : ℕ) (bs : Bytes) where

@@ -5,9 +5,9 @@ use rules::PROGRAM_CEILING;
 ghost use mathlib.Core.Path.{_≡_};
 ghost use mathlib.Core.List.{[], _∷_};
 ghost use Prim.Native.Nat.{_+_, _-_, _≤_, _<_};
-ghost use lib.ListN.{length, drop};
+ghost use lib.ListN.{length};
 ghost use Rattle.rules.specs.Octets.{Bytes, part, lay};
-ghost use Rattle.rules.specs.Program.{lineEnd, linesOf, decimalSaid, lineSaid, isOther, inputJudged, configuredIn, excludedIn, idsIn, namedBy};
+ghost use Rattle.rules.specs.Program.{linesOf, decimalSaid, lineSaid, isOther, inputJudged, configuredIn, excludedIn, idsIn, namedBy};
 ghost use Rattle.request.specs.Answers.{meaning, said, enters, listedBy, listIn};
 ghost use Rattle.request.specs.Lines.{lineAt};
 
@@ -36,20 +36,6 @@ pub enum Judged {
 
 // ---- lines
 
-// How many bytes stand from a place on before the first newline; all that are left where there is none.
-fn newline(s: &[u8], at: usize) -> usize
-    ensures { λ r. ⌜ r ≡ lineEnd (drop at (now (s .entry))) ⌝ }
-{
-    let mut end = at;
-    while end < s.len() {
-        if s[end] == b'\n' {
-            return end - at;
-        }
-        end += 1;
-    }
-    end - at
-}
-
 // The line that begins at a place of the input: Text, up to the next newline or, where there is none, up to the end, with
 // `next` behind its newline or at the end; Done at the end and past it.
 pub fn line_at(input: &[u8], at: usize) -> Line
@@ -58,7 +44,7 @@ pub fn line_at(input: &[u8], at: usize) -> Line
     if input.len() <= at {
         return Line::Done;
     }
-    let len = newline(input, at);
+    let len = octets::length_to(input, at, b'\n');
     if len < input.len() - at {
         return Line::Text {
             len,

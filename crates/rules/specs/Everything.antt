@@ -24,7 +24,7 @@ unfolding Ceilings.blobCeiling Ceilings.nodeCeiling Ceilings.openCeiling Ceiling
 inCeilings = tt
 
 unfoldable pub inOctets : Unit {0}
-unfolding Octets.wordAt Octets.longAt Octets.be32 Octets.be64 Octets.numberAfter Octets.words32 Octets.words64 Octets.filled Octets.put Octets.lay Octets.nulIn Octets.ascii Octets.same Octets.begins Octets.holds Octets.before
+unfolding Octets.wordAt Octets.longAt Octets.be32 Octets.be64 Octets.numberAfter Octets.words32 Octets.words64 Octets.filled Octets.put Octets.lay Octets.lengthTo Octets.ascii Octets.same Octets.begins Octets.holds Octets.before
 inOctets = tt
 
 unfoldable pub inLists : Unit {0}
@@ -32,7 +32,7 @@ unfolding Lists.oneOf Lists.every Lists.any Lists.keep Lists.insert Lists.sort L
 inLists = tt
 
 unfoldable pub inNames : Unit {0}
-unfolding Names.nodeChar Names.propertyChar Names.atSign Names.nodeNameValid Names.propertyNameValid Names.nodeNameReads Names.propertyNameReads
+unfolding Names.nodeChar Names.propertyChar Names.nodeNameValid Names.propertyNameValid Names.nodeNameReads Names.propertyNameReads
 inNames = tt
 
 unfoldable pub inReservations : Unit {0}
@@ -88,7 +88,7 @@ unfolding Device.find Device.findList
 inDevice = tt
 
 unfoldable pub inProgram : Unit {0}
-unfolding Program.lineEnd Program.linesFrom Program.linesOf Program.decimalAfter Program.decimalSaid Program.lineSaid Program.linesJudged Program.inputJudged Program.configuredIn Program.excludedIn Program.idsIn Program.requestIn Program.digitsFrom Program.decimal Program.printedPaths Program.printedAnswer Program.printedRefusal Program.hostJudged Program.programOutcome Program.program
+unfolding Program.linesFrom Program.linesOf Program.decimalAfter Program.decimalSaid Program.lineSaid Program.linesJudged Program.inputJudged Program.configuredIn Program.excludedIn Program.idsIn Program.requestIn Program.digitsFrom Program.decimal Program.printedPaths Program.printedAnswer Program.printedRefusal Program.hostJudged Program.programOutcome Program.program
 inProgram = tt
 
 unfoldable pub inWithheld : Unit {0}

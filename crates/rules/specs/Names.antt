@@ -6,7 +6,7 @@ use Prim.Native.Nat.{ℕ, suc}
 use lib.Dec.{leb, eqb}
 use lib.ListN.{length, take, drop}
 use Rattle.rules.specs.Ceilings.{nodeNameCeiling, propertyNameCeiling}
-use Rattle.rules.specs.Octets.{Bytes}
+use Rattle.rules.specs.Octets.{Bytes, lengthTo}
 use Rattle.rules.specs.Lists.{oneOf, every}
 
 abbrev pub within : ℕ → ℕ → ℕ → Bool
@@ -21,9 +21,8 @@ unfoldable pub propertyChar : ℕ → Bool
 propertyChar b = nodeChar b || oneOf b (63 ∷ 35 ∷ [])
 
 -- where the first @ stands; the length where there is none
-unfoldable pub atSign : Bytes → ℕ
-atSign [] = 0
-atSign (b ∷ bs) = elim (eqb b 64) [ true ↦ 0 | false ↦ suc (atSign bs) ]
+abbrev pub atSign : Bytes → ℕ
+atSign s = lengthTo 64 s
 
 abbrev pub beforeAt : Bytes → Bytes
 beforeAt s = take (atSign s) s

@@ -87,10 +87,13 @@ lay old at new = take (length old) (put old at new)
 
 -- ---- names
 
--- how many bytes stand before the first NUL; all of them where there is none
-unfoldable pub nulIn : Bytes → ℕ
-nulIn [] = 0
-nulIn (b ∷ bs) = elim (eqb b 0) [ true ↦ 0 | false ↦ suc (nulIn bs) ]
+-- how many bytes stand before the first of this value; all of them where there is none
+unfoldable pub lengthTo : (byte : ℕ) → Bytes → ℕ
+lengthTo byte [] = 0
+lengthTo byte (b ∷ bs) = elim (eqb b byte) [ true ↦ 0 | false ↦ suc (lengthTo byte bs) ]
+
+abbrev pub nulIn : Bytes → ℕ
+nulIn s = lengthTo 0 s
 
 abbrev pub hasNul : Bytes → Bool
 hasNul s = ltb (nulIn s) (length s)

@@ -7,7 +7,7 @@ use Prim.Native.Nat.{ℕ, zero, suc, _+_, _-_, _*_, _/_, _%_, _^_}
 use lib.Dec.{eqb, ltb}
 use lib.ListN.{length, take, drop}
 use Rattle.rules.specs.Ceilings.{programCeiling, workWords}
-use Rattle.rules.specs.Octets.{Bytes, if_then_else_, hasNul, closed, ascii, begins}
+use Rattle.rules.specs.Octets.{Bytes, if_then_else_, lengthTo, hasNul, closed, ascii, begins}
 use Rattle.rules.specs.Lists.{every}
 use Rattle.rules.specs.Names.{within}
 use Rattle.rules.specs.Outcome.{Outcome, gives, refuses, Verdict, passes, _then_, first}
@@ -18,9 +18,8 @@ use Rattle.rules.specs.Derivation.{Request, Derived, derive, listedPaths
 -- ---- lines
 
 -- how many bytes stand before the first newline; all of them where there is none
-unfoldable pub lineEnd : Bytes → ℕ
-lineEnd [] = 0
-lineEnd (b ∷ bs) = elim (eqb b 10) [ true ↦ 0 | false ↦ suc (lineEnd bs) ]
+abbrev pub lineEnd : Bytes → ℕ
+lineEnd s = lengthTo 10 s
 
 pub record Line : Type 0 where
   pub offset : ℕ

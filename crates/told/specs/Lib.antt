@@ -1,2 +1,1 @@
--- What is told of an answer: definitions that contracts cite.
-pub mod Told
+-- The number and the place of a refusal are said in reader and derive: Answers.

@@ -1,11 +1,12 @@
 // The number and the place of a refusal, as they are printed.
 use derive::Refusal;
 ghost use mathlib.Core.Path.{_≡_};
-ghost use Rattle.told.specs.Told.{readerNumber, readerPlace, numberOf, placeOf};
+ghost use Rattle.reader.specs.Answers.{insideNumber, placeOf as readerPlace};
+ghost use Rattle.derive.specs.Answers.{numberOf, placeOf};
 
 // The number of a reader's refusal that is carried inside. 40 is not carried: it is the derivation's own.
 fn reader_number(refusal: reader::Refusal) -> u64
-    ensures { λ r. ⌜ r ≡ readerNumber refusal ⌝ }
+    ensures { λ r. ⌜ r ≡ insideNumber refusal ⌝ }
 {
     let n = reader::told(refusal).number;
     if n == 40 { 0 } else { n }

@@ -1,11 +1,11 @@
 -- `accepted` meets its contract: judged, and, where the lists pass, listed and written.
 use mathlib.Core.Path.{refl, ap}
 use denote.Ref.{now}
-use Rattle.rules.specs.Laws.Host.{block-is, part-is, part-at, wide}
+use Rattle.rules.specs.Laws.Host.{block-is, wide}
 use Rattle.device.specs.Answers.{checked}
-use Rattle.device.proofs.Joining.{accepts-not, conf-few, start-asked, excl-few, accepts}
-use borrow.Author.Needs.{needs}
+use Rattle.device.proofs.Joining.{accepts-not, start-asked, accepts}
 use Rattle.rules.specs.Blob.{blockOf}
+use borrow.Author.Needs.{needs}
 use Rattle.device.proofs.accepted.Statement.{statement}
 use Rattle.device.proofs.accepted.Tie as tie
 
@@ -15,35 +15,17 @@ word-requires c κs = search needs
 cast-place : tie.Need-cast-place
 cast-place c = search needs
 
-word-requires-2 : tie.Need-word-requires-2
-word-requires-2 c κs = search needs
+block-requires : tie.Need-block-requires
+block-requires c κs = search needs
 
-cast-part : tie.Need-cast-part
-cast-part c = search needs
-
-part-requires : tie.Need-part-requires
-part-requires c κs = search needs
-
-word-requires-3 : tie.Need-word-requires-3
-word-requires-3 c κs = search needs
-
-cast-from : tie.Need-cast-from
-cast-from c = search needs
-
-word-requires-4 : tie.Need-word-requires-4
-word-requires-4 c κs = search needs
-
-cast-part-2 : tie.Need-cast-part-2
-cast-part-2 c = search needs
-
-part-requires-2 : tie.Need-part-requires-2
-part-requires-2 c κs = search needs
+block-requires-2 : tie.Need-block-requires-2
+block-requires-2 c κs = search needs
 
 slice-aggregate-lists : tie.Need-slice-aggregate-lists
 slice-aggregate-lists c = search needs
 
 lists-requires : tie.Need-lists-requires
-lists-requires c κs = (c .before .before .before .before .before .before .before .before .before .before .before .before .before .pre .kept .few, wide)
+lists-requires c κs = (c .before .before .before .before .before .before .before .before .before .before .pre .kept .few, wide)
 
 enum-known-checked : tie.Need-enum-known-checked
 enum-known-checked c = search needs
@@ -55,22 +37,28 @@ slice-aggregate-excluded : tie.Need-slice-aggregate-excluded
 slice-aggregate-excluded c = search needs
 
 excluded-requires : tie.Need-excluded-requires
-excluded-requires c κs = c .before .before .before .before .before .before .before .before .before .before .before .before .before .before .before .before .before .before .before .before .pre .kept .few
+excluded-requires c κs = c .before .before .before .before .before .before .before .before .before .before .before .before .before .before .before .before .before .pre .kept .few
 
-slice-aggregate-written-by : tie.Need-slice-aggregate-written-by
-slice-aggregate-written-by c = search needs
+slice-aggregate-first-words : tie.Need-slice-aggregate-first-words
+slice-aggregate-first-words c = search needs
 
-slice-aggregate-written-by-2 : tie.Need-slice-aggregate-written-by-2
-slice-aggregate-written-by-2 c = search needs
+first-words-requires : tie.Need-first-words-requires
+first-words-requires c κs = search needs
 
-written-by-requires : tie.Need-written-by-requires
-written-by-requires c κs = ((conf-few (now (c .before .before .before .before .before .before .before .before .before .before .before .before .before .before .before .before .before .before .before .before .before .before .before .before .before .before .args .host)) (now (c .before .before .before .before .before .before .before .before .before .before .before .before .before .before .before .before .before .before .before .before .before .before .before .before .before .before .args .work)) (c .before .before .before .before .before .before .before .before .before .before .before .before .before .before .before .before .before .before .before .before .before .before .before .before .before .before .args .count) (c .before .before .before .before .before .before .before .before .before .before .before .before .before .before .before .before .before .before .before .before .before .before .before .before .before .before .pre) (blockOf (c .before .before .before .before .before .before .before .before .before .before .before .before .before .before .before .before .before .before .before .before .word .result) (now (c .before .before .before .before .before .before .before .before .before .before .before .before .before .before .before .before .before .before .part .result)) (now (c .before .before .before .before .before .before .before .before .before .before .before .before .before .before .before .part2 .result))) (block-is (now (c .before .before .before .before .before .before .before .before .before .before .before .before .before .before .before .before .before .before .before .before .before .before .before .before .before .before .args .host)) (c .before .before .before .before .before .before .before .before .before .before .before .before .before .before .before .before .before .before .before .before .word .result) (now (c .before .before .before .before .before .before .before .before .before .before .before .before .before .before .before .before .before .before .part .result)) (now (c .before .before .before .before .before .before .before .before .before .before .before .before .before .before .before .part2 .result)) (c .before .before .before .before .before .before .before .before .before .before .before .before .before .before .before .before .before .before .before .before .word .ensures) (part-is (now (c .before .before .before .before .before .before .before .before .before .before .before .before .before .before .before .before .before .before .before .before .before .before .before .before .before .before .args .host)) (c .before .before .before .before .before .before .before .before .before .before .before .before .before .before .before .before .before .before .before .before .word .result) (c .before .before .before .before .before .before .before .before .before .before .before .before .before .before .before .before .before .before .before .word2 .result) 36 _ (c .before .before .before .before .before .before .before .before .before .before .before .before .before .before .before .before .before .before .before .word2 .ensures) (c .before .before .before .before .before .before .before .before .before .before .before .before .before .before .before .before .before .before .part .ensures)) (part-at (now (c .before .before .before .before .before .before .before .before .before .before .before .before .before .before .before .before .before .before .before .before .before .before .before .before .before .before .args .host)) (c .before .before .before .before .before .before .before .before .before .before .before .before .before .before .before .before .before .word3 .result) (c .before .before .before .before .before .before .before .before .before .before .before .before .before .before .before .before .word4 .result) 12 32 _ (c .before .before .before .before .before .before .before .before .before .before .before .before .before .before .before .before .before .word3 .ensures) (c .before .before .before .before .before .before .before .before .before .before .before .before .before .before .before .before .word4 .ensures) (c .before .before .before .before .before .before .before .before .before .before .before .before .before .before .before .part2 .ensures))) (now (c .before .before .before .before .before .before .before .before .before .before .before .before .before .before .before .before .before .before .before .before .before .before .before .before .before .before .args .configured)) (now (c .before .before .before .before .before .before .before .before .before .before .before .before .before .before .before .before .before .before .before .before .before .before .before .before .before .before .args .excluded)) _ _ (c .before .before .before .before .before .before .before .before .before .before .before .before .lists .result) (c .before .before .before .before .before .before .before .before .before .before .before .before .lists .ensures (now (c .before .before .before .before .before .before .before .before .before .before .before .before .before .before .before .part2 .result))) (c .before .before .before .before .before .before .before .before .before .checked2 .given .0 .0) (ap checked (c .before .before .before .before .before .before .before .before .before .checked2 .given .1)) wide, excl-few (now (c .before .before .before .before .before .before .before .before .before .before .before .before .before .before .before .before .before .before .before .before .before .before .before .before .before .before .args .host)) (now (c .before .before .before .before .before .before .before .before .before .before .before .before .before .before .before .before .before .before .before .before .before .before .before .before .before .before .args .work)) (c .before .before .before .before .before .before .before .before .before .before .before .before .before .before .before .before .before .before .before .before .before .before .before .before .before .before .args .count) (c .before .before .before .before .before .before .before .before .before .before .before .before .before .before .before .before .before .before .before .before .before .before .before .before .before .before .pre) (blockOf (c .before .before .before .before .before .before .before .before .before .before .before .before .before .before .before .before .before .before .before .before .word .result) (now (c .before .before .before .before .before .before .before .before .before .before .before .before .before .before .before .before .before .before .part .result)) (now (c .before .before .before .before .before .before .before .before .before .before .before .before .before .before .before .part2 .result))) (block-is (now (c .before .before .before .before .before .before .before .before .before .before .before .before .before .before .before .before .before .before .before .before .before .before .before .before .before .before .args .host)) (c .before .before .before .before .before .before .before .before .before .before .before .before .before .before .before .before .before .before .before .before .word .result) (now (c .before .before .before .before .before .before .before .before .before .before .before .before .before .before .before .before .before .before .part .result)) (now (c .before .before .before .before .before .before .before .before .before .before .before .before .before .before .before .part2 .result)) (c .before .before .before .before .before .before .before .before .before .before .before .before .before .before .before .before .before .before .before .before .word .ensures) (part-is (now (c .before .before .before .before .before .before .before .before .before .before .before .before .before .before .before .before .before .before .before .before .before .before .before .before .before .before .args .host)) (c .before .before .before .before .before .before .before .before .before .before .before .before .before .before .before .before .before .before .before .before .word .result) (c .before .before .before .before .before .before .before .before .before .before .before .before .before .before .before .before .before .before .before .word2 .result) 36 _ (c .before .before .before .before .before .before .before .before .before .before .before .before .before .before .before .before .before .before .before .word2 .ensures) (c .before .before .before .before .before .before .before .before .before .before .before .before .before .before .before .before .before .before .part .ensures)) (part-at (now (c .before .before .before .before .before .before .before .before .before .before .before .before .before .before .before .before .before .before .before .before .before .before .before .before .before .before .args .host)) (c .before .before .before .before .before .before .before .before .before .before .before .before .before .before .before .before .before .word3 .result) (c .before .before .before .before .before .before .before .before .before .before .before .before .before .before .before .before .word4 .result) 12 32 _ (c .before .before .before .before .before .before .before .before .before .before .before .before .before .before .before .before .before .word3 .ensures) (c .before .before .before .before .before .before .before .before .before .before .before .before .before .before .before .before .word4 .ensures) (c .before .before .before .before .before .before .before .before .before .before .before .before .before .before .before .part2 .ensures))) (now (c .before .before .before .before .before .before .before .before .before .before .before .before .before .before .before .before .before .before .before .before .before .before .before .before .before .before .args .configured)) (now (c .before .before .before .before .before .before .before .before .before .before .before .before .before .before .before .before .before .before .before .before .before .before .before .before .before .before .args .excluded)) _ _ (c .before .before .before .before .before .before .before .before .before .before .before .before .lists .result) (c .before .before .before .before .before .before .before .before .before .before .before .before .lists .ensures (now (c .before .before .before .before .before .before .before .before .before .before .before .before .before .before .before .part2 .result))) (c .before .before .before .before .before .before .before .before .before .checked2 .given .0 .0) (ap checked (c .before .before .before .before .before .before .before .before .before .checked2 .given .1)) wide _ _ (c .before .before .before .before .before .excluded .result) wide (c .before .before .before .before .before .excluded .ensures .0 (now (c .before .before .before .before .before .before .before .before .before .before .before .before .before .before .before .part2 .result))) (c .before .before .before .before .before .excluded .ensures .1 (now (c .before .before .before .before .before .before .before .before .before .before .before .before .before .before .before .part2 .result)))), start-asked (now (c .before .before .before .before .before .before .before .before .before .before .before .before .before .before .before .before .before .before .before .before .before .before .before .before .before .before .args .host)) (now (c .before .before .before .before .before .before .before .before .before .before .before .before .before .before .before .before .before .before .before .before .before .before .before .before .before .before .args .work)) (c .before .before .before .before .before .before .before .before .before .before .before .before .before .before .before .before .before .before .before .before .before .before .before .before .before .before .args .count) (c .before .before .before .before .before .before .before .before .before .before .before .before .before .before .before .before .before .before .before .before .before .before .before .before .before .before .pre) (blockOf (c .before .before .before .before .before .before .before .before .before .before .before .before .before .before .before .before .before .before .before .before .word .result) (now (c .before .before .before .before .before .before .before .before .before .before .before .before .before .before .before .before .before .before .part .result)) (now (c .before .before .before .before .before .before .before .before .before .before .before .before .before .before .before .part2 .result))) (block-is (now (c .before .before .before .before .before .before .before .before .before .before .before .before .before .before .before .before .before .before .before .before .before .before .before .before .before .before .args .host)) (c .before .before .before .before .before .before .before .before .before .before .before .before .before .before .before .before .before .before .before .before .word .result) (now (c .before .before .before .before .before .before .before .before .before .before .before .before .before .before .before .before .before .before .part .result)) (now (c .before .before .before .before .before .before .before .before .before .before .before .before .before .before .before .part2 .result)) (c .before .before .before .before .before .before .before .before .before .before .before .before .before .before .before .before .before .before .before .before .word .ensures) (part-is (now (c .before .before .before .before .before .before .before .before .before .before .before .before .before .before .before .before .before .before .before .before .before .before .before .before .before .before .args .host)) (c .before .before .before .before .before .before .before .before .before .before .before .before .before .before .before .before .before .before .before .before .word .result) (c .before .before .before .before .before .before .before .before .before .before .before .before .before .before .before .before .before .before .before .word2 .result) 36 _ (c .before .before .before .before .before .before .before .before .before .before .before .before .before .before .before .before .before .before .before .word2 .ensures) (c .before .before .before .before .before .before .before .before .before .before .before .before .before .before .before .before .before .before .part .ensures)) (part-at (now (c .before .before .before .before .before .before .before .before .before .before .before .before .before .before .before .before .before .before .before .before .before .before .before .before .before .before .args .host)) (c .before .before .before .before .before .before .before .before .before .before .before .before .before .before .before .before .before .word3 .result) (c .before .before .before .before .before .before .before .before .before .before .before .before .before .before .before .before .word4 .result) 12 32 _ (c .before .before .before .before .before .before .before .before .before .before .before .before .before .before .before .before .before .word3 .ensures) (c .before .before .before .before .before .before .before .before .before .before .before .before .before .before .before .before .word4 .ensures) (c .before .before .before .before .before .before .before .before .before .before .before .before .before .before .before .part2 .ensures))) (now (c .before .before .before .before .before .before .before .before .before .before .before .before .before .before .before .before .before .before .before .before .before .before .before .before .before .before .args .configured)) (now (c .before .before .before .before .before .before .before .before .before .before .before .before .before .before .before .before .before .before .before .before .before .before .before .before .before .before .args .excluded)) _ _ (c .before .before .before .before .before .before .before .before .before .before .before .before .lists .result) (c .before .before .before .before .before .before .before .before .before .before .before .before .lists .ensures (now (c .before .before .before .before .before .before .before .before .before .before .before .before .before .before .before .part2 .result))) (c .before .before .before .before .before .before .before .before .before .checked2 .given .0 .0) (ap checked (c .before .before .before .before .before .before .before .before .before .checked2 .given .1)) wide)
+slice-aggregate-first-words-2 : tie.Need-slice-aggregate-first-words-2
+slice-aggregate-first-words-2 c = search needs
+
+first-words-requires-2 : tie.Need-first-words-requires-2
+first-words-requires-2 c κs = search needs
+
+written-requires : tie.Need-written-requires
+written-requires c κs = rw (c .before .before .before .first-words .ensures) (start-asked (now (c .before .before .before .before .before .before .before .before .before .before .before .before .before .before .before .before .before .before .before .before .before .before .before .before .before .args .host)) (now (c .before .before .before .before .before .before .before .before .before .before .before .before .before .before .before .before .before .before .before .before .before .before .before .before .before .args .work)) (c .before .before .before .before .before .before .before .before .before .before .before .before .before .before .before .before .before .before .before .before .before .before .before .before .before .args .count) (c .before .before .before .before .before .before .before .before .before .before .before .before .before .before .before .before .before .before .before .before .before .before .before .before .before .pre) (blockOf (c .before .before .before .before .before .before .before .before .before .before .before .before .before .before .before .before .before .before .before .word .result) (now (c .before .before .before .before .before .before .before .before .before .before .before .before .before .before .before .before .before .before .block .result)) (now (c .before .before .before .before .before .before .before .before .before .before .before .before .before .before .before .before .before .block2 .result))) (block-is (now (c .before .before .before .before .before .before .before .before .before .before .before .before .before .before .before .before .before .before .before .before .before .before .before .before .before .args .host)) (c .before .before .before .before .before .before .before .before .before .before .before .before .before .before .before .before .before .before .before .word .result) (now (c .before .before .before .before .before .before .before .before .before .before .before .before .before .before .before .before .before .before .block .result)) (now (c .before .before .before .before .before .before .before .before .before .before .before .before .before .before .before .before .before .block2 .result)) (c .before .before .before .before .before .before .before .before .before .before .before .before .before .before .before .before .before .before .before .word .ensures) (c .before .before .before .before .before .before .before .before .before .before .before .before .before .before .before .before .before .before .block .ensures) (c .before .before .before .before .before .before .before .before .before .before .before .before .before .before .before .before .before .block2 .ensures)) (now (c .before .before .before .before .before .before .before .before .before .before .before .before .before .before .before .before .before .before .before .before .before .before .before .before .before .args .configured)) (now (c .before .before .before .before .before .before .before .before .before .before .before .before .before .before .before .before .before .before .before .before .before .before .before .before .before .args .excluded)) _ _ (c .before .before .before .before .before .before .before .before .before .before .before .before .before .before .lists .result) (c .before .before .before .before .before .before .before .before .before .before .before .before .before .before .lists .ensures (now (c .before .before .before .before .before .before .before .before .before .before .before .before .before .before .before .before .before .block2 .result))) (c .before .before .before .before .before .before .before .before .before .before .before .checked2 .given .0 .0) (ap checked (c .before .before .before .before .before .before .before .before .before .before .before .checked2 .given .1)) wide)
 
 same-length : tie.Need-same-length
 same-length c = search needs
 
 returns : tie.Need-returns
-returns c = accepts-not (now (c .before .before .before .before .before .before .before .before .before .before .before .before .before .before .before .before .before .before .args .host)) (now (c .before .before .before .before .before .before .before .before .before .before .before .before .before .before .before .before .before .before .args .work)) (c .before .before .before .before .before .before .before .before .before .before .before .before .before .before .before .before .before .before .args .count) (c .before .before .before .before .before .before .before .before .before .before .before .before .before .before .before .before .before .before .pre) (blockOf (c .before .before .before .before .before .before .before .before .before .before .before .before .word .result) (now (c .before .before .before .before .before .before .before .before .before .before .part .result)) (now (c .before .before .before .before .before .before .before .part2 .result))) (block-is (now (c .before .before .before .before .before .before .before .before .before .before .before .before .before .before .before .before .before .before .args .host)) (c .before .before .before .before .before .before .before .before .before .before .before .before .word .result) (now (c .before .before .before .before .before .before .before .before .before .before .part .result)) (now (c .before .before .before .before .before .before .before .part2 .result)) (c .before .before .before .before .before .before .before .before .before .before .before .before .word .ensures) (part-is (now (c .before .before .before .before .before .before .before .before .before .before .before .before .before .before .before .before .before .before .args .host)) (c .before .before .before .before .before .before .before .before .before .before .before .before .word .result) (c .before .before .before .before .before .before .before .before .before .before .before .word2 .result) 36 _ (c .before .before .before .before .before .before .before .before .before .before .before .word2 .ensures) (c .before .before .before .before .before .before .before .before .before .before .part .ensures)) (part-at (now (c .before .before .before .before .before .before .before .before .before .before .before .before .before .before .before .before .before .before .args .host)) (c .before .before .before .before .before .before .before .before .before .word3 .result) (c .before .before .before .before .before .before .before .before .word4 .result) 12 32 _ (c .before .before .before .before .before .before .before .before .before .word3 .ensures) (c .before .before .before .before .before .before .before .before .word4 .ensures) (c .before .before .before .before .before .before .before .part2 .ensures))) (now (c .before .before .before .before .before .before .before .before .before .before .before .before .before .before .before .before .before .before .args .configured)) (now (c .before .before .before .before .before .before .before .before .before .before .before .before .before .before .before .before .before .before .args .excluded)) _ _ (c .before .before .before .before .lists .result) (c .before .before .before .before .lists .ensures (now (c .before .before .before .before .before .before .before .part2 .result))) (c .before .checked .given .0 .0) (ap checked (c .before .checked .given .1)) _ refl (now (c .before .before .before .before .before .before .before .before .before .before .before .before .before .before .before .before .before .before .args .list))
+returns c = accepts-not (now (c .before .before .before .before .before .before .before .before .before .before .before .before .before .before .before .args .host)) (now (c .before .before .before .before .before .before .before .before .before .before .before .before .before .before .before .args .work)) (c .before .before .before .before .before .before .before .before .before .before .before .before .before .before .before .args .count) (c .before .before .before .before .before .before .before .before .before .before .before .before .before .before .before .pre) (blockOf (c .before .before .before .before .before .before .before .before .before .word .result) (now (c .before .before .before .before .before .before .before .before .block .result)) (now (c .before .before .before .before .before .before .before .block2 .result))) (block-is (now (c .before .before .before .before .before .before .before .before .before .before .before .before .before .before .before .args .host)) (c .before .before .before .before .before .before .before .before .before .word .result) (now (c .before .before .before .before .before .before .before .before .block .result)) (now (c .before .before .before .before .before .before .before .block2 .result)) (c .before .before .before .before .before .before .before .before .before .word .ensures) (c .before .before .before .before .before .before .before .before .block .ensures) (c .before .before .before .before .before .before .before .block2 .ensures)) (now (c .before .before .before .before .before .before .before .before .before .before .before .before .before .before .before .args .configured)) (now (c .before .before .before .before .before .before .before .before .before .before .before .before .before .before .before .args .excluded)) _ _ (c .before .before .before .before .lists .result) (c .before .before .before .before .lists .ensures (now (c .before .before .before .before .before .before .before .block2 .result))) (c .before .checked .given .0 .0) (ap checked (c .before .checked .given .1)) _ refl (now (c .before .before .before .before .before .before .before .before .before .before .before .before .before .before .before .args .list))
 
 same-length-2 : tie.Need-same-length-2
 same-length-2 c = search needs
@@ -79,7 +67,7 @@ same-length-3 : tie.Need-same-length-3
 same-length-3 c = search needs
 
 returns-2 : tie.Need-returns-2
-returns-2 c = accepts (now (c .before .before .before .before .before .before .before .before .before .before .before .before .before .before .before .before .before .before .before .before .before .before .before .before .before .before .before .before .before .before .before .args .host)) (now (c .before .before .before .before .before .before .before .before .before .before .before .before .before .before .before .before .before .before .before .before .before .before .before .before .before .before .before .before .before .before .before .args .work)) (c .before .before .before .before .before .before .before .before .before .before .before .before .before .before .before .before .before .before .before .before .before .before .before .before .before .before .before .before .before .before .before .args .count) (c .before .before .before .before .before .before .before .before .before .before .before .before .before .before .before .before .before .before .before .before .before .before .before .before .before .before .before .before .before .before .before .pre) (blockOf (c .before .before .before .before .before .before .before .before .before .before .before .before .before .before .before .before .before .before .before .before .before .before .before .before .before .word .result) (now (c .before .before .before .before .before .before .before .before .before .before .before .before .before .before .before .before .before .before .before .before .before .before .before .part .result)) (now (c .before .before .before .before .before .before .before .before .before .before .before .before .before .before .before .before .before .before .before .before .part2 .result))) (block-is (now (c .before .before .before .before .before .before .before .before .before .before .before .before .before .before .before .before .before .before .before .before .before .before .before .before .before .before .before .before .before .before .before .args .host)) (c .before .before .before .before .before .before .before .before .before .before .before .before .before .before .before .before .before .before .before .before .before .before .before .before .before .word .result) (now (c .before .before .before .before .before .before .before .before .before .before .before .before .before .before .before .before .before .before .before .before .before .before .before .part .result)) (now (c .before .before .before .before .before .before .before .before .before .before .before .before .before .before .before .before .before .before .before .before .part2 .result)) (c .before .before .before .before .before .before .before .before .before .before .before .before .before .before .before .before .before .before .before .before .before .before .before .before .before .word .ensures) (part-is (now (c .before .before .before .before .before .before .before .before .before .before .before .before .before .before .before .before .before .before .before .before .before .before .before .before .before .before .before .before .before .before .before .args .host)) (c .before .before .before .before .before .before .before .before .before .before .before .before .before .before .before .before .before .before .before .before .before .before .before .before .before .word .result) (c .before .before .before .before .before .before .before .before .before .before .before .before .before .before .before .before .before .before .before .before .before .before .before .before .word2 .result) 36 _ (c .before .before .before .before .before .before .before .before .before .before .before .before .before .before .before .before .before .before .before .before .before .before .before .before .word2 .ensures) (c .before .before .before .before .before .before .before .before .before .before .before .before .before .before .before .before .before .before .before .before .before .before .before .part .ensures)) (part-at (now (c .before .before .before .before .before .before .before .before .before .before .before .before .before .before .before .before .before .before .before .before .before .before .before .before .before .before .before .before .before .before .before .args .host)) (c .before .before .before .before .before .before .before .before .before .before .before .before .before .before .before .before .before .before .before .before .before .before .word3 .result) (c .before .before .before .before .before .before .before .before .before .before .before .before .before .before .before .before .before .before .before .before .before .word4 .result) 12 32 _ (c .before .before .before .before .before .before .before .before .before .before .before .before .before .before .before .before .before .before .before .before .before .before .word3 .ensures) (c .before .before .before .before .before .before .before .before .before .before .before .before .before .before .before .before .before .before .before .before .before .word4 .ensures) (c .before .before .before .before .before .before .before .before .before .before .before .before .before .before .before .before .before .before .before .before .part2 .ensures))) (now (c .before .before .before .before .before .before .before .before .before .before .before .before .before .before .before .before .before .before .before .before .before .before .before .before .before .before .before .before .before .before .before .args .configured)) (now (c .before .before .before .before .before .before .before .before .before .before .before .before .before .before .before .before .before .before .before .before .before .before .before .before .before .before .before .before .before .before .before .args .excluded)) _ _ (c .before .before .before .before .before .before .before .before .before .before .before .before .before .before .before .before .before .lists .result) (c .before .before .before .before .before .before .before .before .before .before .before .before .before .before .before .before .before .lists .ensures (now (c .before .before .before .before .before .before .before .before .before .before .before .before .before .before .before .before .before .before .before .before .part2 .result))) (c .before .before .before .before .before .before .before .before .before .before .before .before .before .before .checked2 .given .0 .0) (ap checked (c .before .before .before .before .before .before .before .before .before .before .before .before .before .before .checked2 .given .1)) wide _ _ (c .before .before .before .before .before .before .before .before .before .before .excluded .result) wide (c .before .before .before .before .before .before .before .before .before .before .excluded .ensures .0 (now (c .before .before .before .before .before .before .before .before .before .before .before .before .before .before .before .before .before .before .before .before .part2 .result))) (c .before .before .before .before .before .before .before .before .before .before .excluded .ensures .1 (now (c .before .before .before .before .before .before .before .before .before .before .before .before .before .before .before .before .before .before .before .before .part2 .result))) _ (now (c .before .before .before .before .before .before .before .before .before .before .before .before .before .before .before .before .before .before .before .before .before .before .before .before .before .before .before .before .before .before .before .args .list)) _ (c .before .before .before .before .written-by .result) (c .before .before .before .before .written-by .ensures)
+returns-2 c = accepts (now (c .before .before .before .before .before .before .before .before .before .before .before .before .before .before .before .before .before .before .before .before .before .before .before .before .before .before .before .before .before .before .args .host)) (now (c .before .before .before .before .before .before .before .before .before .before .before .before .before .before .before .before .before .before .before .before .before .before .before .before .before .before .before .before .before .before .args .work)) (c .before .before .before .before .before .before .before .before .before .before .before .before .before .before .before .before .before .before .before .before .before .before .before .before .before .before .before .before .before .before .args .count) (c .before .before .before .before .before .before .before .before .before .before .before .before .before .before .before .before .before .before .before .before .before .before .before .before .before .before .before .before .before .before .pre) (blockOf (c .before .before .before .before .before .before .before .before .before .before .before .before .before .before .before .before .before .before .before .before .before .before .before .before .word .result) (now (c .before .before .before .before .before .before .before .before .before .before .before .before .before .before .before .before .before .before .before .before .before .before .before .block .result)) (now (c .before .before .before .before .before .before .before .before .before .before .before .before .before .before .before .before .before .before .before .before .before .before .block2 .result))) (block-is (now (c .before .before .before .before .before .before .before .before .before .before .before .before .before .before .before .before .before .before .before .before .before .before .before .before .before .before .before .before .before .before .args .host)) (c .before .before .before .before .before .before .before .before .before .before .before .before .before .before .before .before .before .before .before .before .before .before .before .before .word .result) (now (c .before .before .before .before .before .before .before .before .before .before .before .before .before .before .before .before .before .before .before .before .before .before .before .block .result)) (now (c .before .before .before .before .before .before .before .before .before .before .before .before .before .before .before .before .before .before .before .before .before .before .block2 .result)) (c .before .before .before .before .before .before .before .before .before .before .before .before .before .before .before .before .before .before .before .before .before .before .before .before .word .ensures) (c .before .before .before .before .before .before .before .before .before .before .before .before .before .before .before .before .before .before .before .before .before .before .before .block .ensures) (c .before .before .before .before .before .before .before .before .before .before .before .before .before .before .before .before .before .before .before .before .before .before .block2 .ensures)) (now (c .before .before .before .before .before .before .before .before .before .before .before .before .before .before .before .before .before .before .before .before .before .before .before .before .before .before .before .before .before .before .args .configured)) (now (c .before .before .before .before .before .before .before .before .before .before .before .before .before .before .before .before .before .before .before .before .before .before .before .before .before .before .before .before .before .before .args .excluded)) _ _ (c .before .before .before .before .before .before .before .before .before .before .before .before .before .before .before .before .before .before .before .lists .result) (c .before .before .before .before .before .before .before .before .before .before .before .before .before .before .before .before .before .before .before .lists .ensures (now (c .before .before .before .before .before .before .before .before .before .before .before .before .before .before .before .before .before .before .before .before .before .before .block2 .result))) (c .before .before .before .before .before .before .before .before .before .before .before .before .before .before .before .before .checked2 .given .0 .0) (ap checked (c .before .before .before .before .before .before .before .before .before .before .before .before .before .before .before .before .checked2 .given .1)) wide _ _ (c .before .before .before .before .before .before .before .before .before .before .before .before .excluded .result) wide (c .before .before .before .before .before .before .before .before .before .before .before .before .excluded .ensures .0 (now (c .before .before .before .before .before .before .before .before .before .before .before .before .before .before .before .before .before .before .before .before .before .before .block2 .result))) (c .before .before .before .before .before .before .before .before .before .before .before .before .excluded .ensures .1 (now (c .before .before .before .before .before .before .before .before .before .before .before .before .before .before .before .before .before .before .before .before .before .before .block2 .result))) _ (now (c .before .before .before .before .before .before .before .before .before .before .before .before .before .before .before .before .before .before .before .before .before .before .before .before .before .before .before .before .before .before .args .list)) _ (c .before .before .before .before .written .result) (rw (c .before .before .before .before .before .before .before .before .first-words .ensures, c .before .before .before .before .before .before .first-words2 .ensures) at (c .before .before .before .before .written .ensures))
 
 pub accepted-spec : {M : Type 1} → statement M
-accepted-spec = tie.close (tie.spec word-requires cast-place word-requires-2 cast-part part-requires word-requires-3 cast-from word-requires-4 cast-part-2 part-requires-2 slice-aggregate-lists lists-requires enum-known-checked enum-known-checked-2 slice-aggregate-excluded excluded-requires slice-aggregate-written-by slice-aggregate-written-by-2 written-by-requires same-length returns same-length-2 same-length-3 returns-2)
+accepted-spec = tie.close (tie.spec word-requires cast-place block-requires block-requires-2 slice-aggregate-lists lists-requires enum-known-checked enum-known-checked-2 slice-aggregate-excluded excluded-requires slice-aggregate-first-words first-words-requires slice-aggregate-first-words-2 first-words-requires-2 written-requires same-length returns same-length-2 same-length-3 returns-2)

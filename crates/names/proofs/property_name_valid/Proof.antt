@@ -17,12 +17,12 @@ returns-2 : tie.Need-returns-2
 unfolding propertyNameValid propertyNameCeiling
 returns-2 c = rw (le-leb 1 (length (now (c .before .before .before .args .name))) (omega arith), lt-leb (length (now (c .before .before .before .args .name))) 31 (omega arith))
 
-property-name-chars-requires : tie.Need-property-name-chars-requires
-property-name-chars-requires c κs = search needs
+name-chars-requires : tie.Need-name-chars-requires
+name-chars-requires c κs = search needs
 
 returns-3 : tie.Need-returns-3
 unfolding propertyNameValid propertyNameCeiling
-returns-3 c = rw (le-leb 1 (length (now (c .before .before .before .before .args .name))) (omega arith), le-leb (length (now (c .before .before .before .before .args .name))) 31 (omega arith)) (c .property-name-chars .ensures)
+returns-3 c = rw (le-leb 1 (length (now (c .before .before .before .before .args .name))) (omega arith), le-leb (length (now (c .before .before .before .before .args .name))) 31 (omega arith)) (c .name-chars .ensures)
 
 pub property-name-valid-spec : {M : Type 1} → statement M
-property-name-valid-spec = tie.close (tie.spec returns returns-2 property-name-chars-requires returns-3)
+property-name-valid-spec = tie.close (tie.spec returns returns-2 name-chars-requires returns-3)

@@ -12,8 +12,8 @@ returns : tie.Need-returns
 unfolding lineAt
 returns c = simp (le-ltb _ _ (c .if1 .taken))
 
-newline-requires : tie.Need-newline-requires
-newline-requires c κs = search needs
+length-to-requires : tie.Need-length-to-requires
+length-to-requires c κs = search needs
 
 sub-if2 : tie.Need-sub-if2
 sub-if2 c = search needs
@@ -26,14 +26,14 @@ add-t8 c = search needs
 
 returns-2 : tie.Need-returns-2
 unfolding lineAt textOf
-returns-2 c = simp (lt-ltb _ _ (c .before .before .if1 .left), ← c .before .newline .ensures, lt-ltb _ _ (c .if2 .taken))
+returns-2 c = simp (lt-ltb _ _ (c .before .before .if1 .left), ← c .before .length-to .ensures, lt-ltb _ _ (c .if2 .taken))
 
 add-t4 : tie.Need-add-t4
-add-t4 c = omega (arith, c .before .newline .ensures, lines-inside (now (c .before .before .before .before .args .input)) (c .before .before .before .before .args .at) (c .before .before .if1 .left))
+add-t4 c = omega (arith, c .before .length-to .ensures, lines-inside (now (c .before .before .before .before .args .input)) (c .before .before .before .before .args .at) (c .before .before .if1 .left))
 
 returns-3 : tie.Need-returns-3
 unfolding lineAt textOf
-returns-3 c = simp (lt-ltb _ _ (c .before .before .if1 .left), ← c .before .newline .ensures, le-ltb _ _ (c .if2 .left))
+returns-3 c = simp (lt-ltb _ _ (c .before .before .if1 .left), ← c .before .length-to .ensures, le-ltb _ _ (c .if2 .left))
 
 pub line-at-spec : {M : Type 1} → statement M
-line-at-spec = tie.close (tie.spec returns newline-requires sub-if2 add-t7 add-t8 returns-2 add-t4 returns-3)
+line-at-spec = tie.close (tie.spec returns length-to-requires sub-if2 add-t7 add-t8 returns-2 add-t4 returns-3)

@@ -1,6 +1,6 @@
 -- The laws of a host that is read: its blocks as code takes them, its table in the work space, what is left to be judged behind the
 -- reader, and the work space at the end; and of path lists that pass: the nodes that they name, laid into an array.
-use mathlib.Core.Path.{_≡_, refl, sym, ap, ap₂, _∙_}
+use mathlib.Core.Path.{_≡_, refl, sym, ap, _∙_}
 use mathlib.Core.List.{List, []}
 use Prim.Native.Nat.{ℕ, _-_, _≤_}
 use native.Mathlib.Omega.{arith}
@@ -12,13 +12,13 @@ use borrow.Author.Tests.{lt-ltb, le-ltb, ltb-false}
 use Rattle.rules.specs.Ceilings.{entryCeiling, workWords}
 use Rattle.rules.specs.Octets.{Bytes, put, lay, zeros, wordAt, part}
 use Rattle.rules.specs.Outcome.{Outcome, Verdict, passes, gives, refuses, _then_}
-use Rattle.rules.specs.Blob.{headerIn, blockIn}
+use Rattle.rules.specs.Blob.{headerIn, Block, blockIn}
 use Rattle.rules.specs.Tree.{Frame}
 use Rattle.rules.specs.Reader.{treeRead, blobJudged, spaceJudged, read, rowsOf, tableOf, readWork, spaceOf}
 use Rattle.rules.specs.Derivation.{Given, nodesNamed, deriveWork}
 use Rattle.rules.specs.Laws.Tests.{by-le}
 use Rattle.rules.specs.Laws.Verdicts.{gives-refuses, then-passes, then-gives, one-passes}
-use Rattle.rules.specs.Laws.Octets.{lay-front, length-lay, length-zeros}
+use Rattle.rules.specs.Laws.Octets.{lay-front, length-zeros}
 use Rattle.rules.specs.Laws.Formed.{named-few}
 use Rattle.rules.specs.Laws.Reader.{space-clear, space-length, space-space, table-fits}
 use Rattle.rules.specs.Laws.Table.{rows-length, read-table}
@@ -33,18 +33,20 @@ pub record HostRead (host : Bytes) (ws : List ℕ) (count : ℕ) : Type 0 where
   pub kept : Kept (blockIn host) ws count
   pub tree : treeIn (blockIn host) ws count ≡ treeRead host
 
+-- the same of its block by another name
+module _ (host : Bytes) (ws : List ℕ) (count : ℕ) (read : HostRead host ws count) (b : Block) (same : b ≡ blockIn host) where
+  pub kept-in : Kept b ws count
+  kept-in = rw same (read .kept)
+
+  pub tree-in : treeIn b ws count ≡ treeRead host
+  tree-in = ap (λ (c : Block). treeIn c ws count) same ∙ read .tree
+
 -- ---- the blocks, as code takes them
 
-pub block-is : (host : Bytes) (place : ℕ) (structure strings : Bytes) → place ≡ wordAt host 8 → structure ≡ part host place (wordAt host 36) → strings ≡ part host (wordAt host 12) (wordAt host 32)
+pub block-is : (host : Bytes) (place : ℕ) (structure strings : Bytes) → place ≡ wordAt host 8 → structure ≡ part host (wordAt host 8) (wordAt host 36) → strings ≡ part host (wordAt host 12) (wordAt host 32)
     → record { place = place; structure = structure; strings = strings } ≡ blockIn host
 unfolding blockIn headerIn
 block-is host place structure strings p s t = rw (s, t, p)
-
-pub part-is : (host : Bytes) (at n field : ℕ) (s : Bytes) → n ≡ wordAt host field → s ≡ part host at n → s ≡ part host at (wordAt host field)
-part-is host at n field s e f = f ∙ ap (part host at) e
-
-pub part-at : (host : Bytes) (at n from field : ℕ) (s : Bytes) → at ≡ wordAt host from → n ≡ wordAt host field → s ≡ part host at n → s ≡ part host (wordAt host from) (wordAt host field)
-part-at host at n from field s d e f = f ∙ ap₂ (part host) d e
 
 -- ---- the nodes that a path list names
 
@@ -52,14 +54,11 @@ part-at host at n from field s d e f = f ∙ ap₂ (part host) d e
 pub wide : entryCeiling ≤ length {A = ℕ} (replicate ENTRY-CEILING 0)
 wide = omega (arith, entry-ceiling)
 
--- no more of them than entries, so that such an array holds them, and they stand in front
-module _ (f : Frame) (gs : List Given) (few : length gs ≤ entryCeiling) (old new : List ℕ) (n : ℕ) (room : entryCeiling ≤ length old)
-    (many : n ≡ length (nodesNamed f gs)) (laid : new ≡ lay old 0 (nodesNamed f gs)) where
-  pub named-inside : n ≤ length new
-  named-inside = omega (arith, many, named-few f gs, few, room, ap length laid ∙ length-lay old 0 (nodesNamed f gs))
-
-  pub named-front : take n new ≡ nodesNamed f gs
-  named-front = rw (laid, many, lay-front old (nodesNamed f gs) (omega (arith, named-few f gs, few, room))) (take-append-seam (nodesNamed f gs) (drop (length (nodesNamed f gs)) old))
+-- no more of them than entries, so that they stand in front of such an array
+pub named-front : (f : Frame) (gs : List Given) → length gs ≤ entryCeiling → (old new : List ℕ) (n : ℕ) → entryCeiling ≤ length old
+    → n ≡ length (nodesNamed f gs) → new ≡ lay old 0 (nodesNamed f gs) → take n new ≡ nodesNamed f gs
+named-front f gs few old new n room many laid =
+    rw (laid, many, lay-front old (nodesNamed f gs) (omega (arith, named-few f gs, few, room))) (take-append-seam (nodesNamed f gs) (drop (length (nodesNamed f gs)) old))
 
 -- ---- from the reader on
 

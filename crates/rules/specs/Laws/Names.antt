@@ -15,7 +15,7 @@ use Rattle.rules.specs.Ceilings.{nodeNameCeiling, propertyNameCeiling}
 use Rattle.rules.specs.Octets.{Bytes, byteAt, hasNul}
 use Rattle.rules.specs.Names.{within, nodeChar, propertyChar, atSign, nodeNameValid, propertyNameValid, nodeNameReads}
 use Rattle.rules.specs.Lists.{oneOf, every}
-use Rattle.rules.specs.Laws.Octets.{has-nul-not}
+use Rattle.rules.specs.Laws.Octets.{to-le, to-byte, has-nul-not}
 use Rattle.rules.specs.Laws.Tests.{by-test, by-le, never, and-true, or-cases, or-right, or-nothing, true-and}
 
 -- ---- a rule for characters over a range of them
@@ -66,34 +66,6 @@ module _ (f : ℕ → Bool) (s : Bytes) (i : ℕ) where
   unfolding every
   every-end h = rw (drop-of-length-le s h)
 
-module _ (s : Bytes) (i : ℕ) where
-  pub at-here : i < length s → byteAt s i ≡ 64 → atSign (drop i s) ≡ 0
-  unfolding atSign
-  at-here h e = rw (drop-cons s i 0, e, atSign)
-
-  pub at-more : i < length s → (byteAt s i ≡ 64 → ⊥) → atSign (drop i s) ≡ atSign (drop (i + 1) s) + 1
-  unfolding atSign
-  at-more h e = rw (drop-cons s i 0, ne-eqb (byteAt s i) 64 e, atSign) (rw (add-one i) (sym (add-one _)))
-
-  pub at-end : length s ≤ i → atSign (drop i s) ≡ 0
-  unfolding atSign
-  at-end h = rw (drop-of-length-le s h)
-
-at-cons : (b : ℕ) (bs : Bytes) → (b ≡ 64 → ⊥) → atSign (b ∷ bs) ≡ suc (atSign bs)
-unfolding atSign
-at-cons b bs h = rw (ne-eqb b 64 h, atSign)
-
-at-first : (bs : Bytes) → atSign (64 ∷ bs) ≡ 0
-unfolding atSign
-at-first bs = refl
-
-pub at-le : (s : Bytes) → atSign s ≤ length s
-unfolding atSign
-at-le [] = omega arith
-at-le (b ∷ bs) = by-test (eqb b 64)
-    (λ e. rw (eqb-true b 64 e, at-first bs) (omega arith))
-    (λ e. omega (arith, at-cons b bs (λ q. never (eqb b 64) (eq-eqb b 64 q) e), at-le bs))
-
 -- ---- the rules, where the tests before have told the length
 
 pub node-empty : (s : Bytes) → length s ≡ 0 → nodeNameValid s ≡ true
@@ -104,7 +76,7 @@ node-empty s h = rw (eq-eqb (length s) 0 h)
 pub node-rule : (s : Bytes) (n : ℕ) → (length s ≡ 0 → ⊥) → n ≡ atSign s
     → nodeNameValid s ≡ within 1 nodeNameCeiling n && every nodeChar (take n s) && every nodeChar (drop (n + 1) s)
 unfolding nodeNameValid
-node-rule s n h e = rw (add-one, e, ne-eqb (length s) 0 h, length-take-le (atSign s) s (at-le s))
+node-rule s n h e = rw (add-one, e, ne-eqb (length s) 0 h, length-take-le (atSign s) s (to-le 64 s))
 
 pub node-reads : (s : Bytes) → (length s ≡ 0 → ⊥) → nodeNameReads s ≡ nodeNameValid s
 unfolding nodeNameReads
@@ -174,13 +146,6 @@ unfolding every
 every-all f [] h = refl
 every-all f (b ∷ bs) h = true-and (f b) (every f bs) (h 0 (omega arith)) (every-all f bs (λ i k. h (suc i) (omega arith)))
 
--- where an @ stands, one stands
-pub at-byte : (s : Bytes) → atSign s < length s → byteAt s (atSign s) ≡ 64
-at-byte [] h = absurd (omega arith)
-at-byte (b ∷ bs) h = by-test (eqb b 64)
-    (λ e. let q = eqb-true b 64 e in rw (q, at-first bs))
-    (λ e. let q = at-cons b bs (eqb-false b 64 e) in rw q (at-byte bs (omega arith)))
-
 plain-at : plain 64 ≡ true
 unfolding plain
 plain-at = refl
@@ -195,8 +160,8 @@ node-name-plain s h i k =
     let t = every-at nodeChar (drop (n + 1) s) (u .1) j (omega (arith, length-drop (n + 1) s)) in
     node-char-plain (byteAt s i) (rw (getD-drop (n + 1) s j 0, e) at t))
     (λ near. by-le n i
-    (λ here. let e : i ≡ n = omega arith in rw (e, at-byte s (omega arith)) plain-at)
-    (λ front. let t = every-at nodeChar (take n s) (and-true (within 1 nodeNameCeiling n) _ (u .0) .1) i (omega (arith, length-take-le n s (at-le s))) in
+    (λ here. let e : i ≡ n = omega arith in rw (e, to-byte 64 s (omega arith)) plain-at)
+    (λ front. let t = every-at nodeChar (take n s) (and-true (within 1 nodeNameCeiling n) _ (u .0) .1) i (omega (arith, length-take-le n s (to-le 64 s))) in
     node-char-plain (byteAt s i) (rw (getD-take n s i 0 front) at t)))
 
 pub property-name-plain : (s : Bytes) → propertyNameValid s ≡ true → (i : ℕ) → i < length s → plain (byteAt s i) ≡ true

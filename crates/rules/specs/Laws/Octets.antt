@@ -11,7 +11,7 @@ use lib.Dec.{eqb}
 use lib.ListN.{length, take, drop, set, getD, take-append-drop, length-append, length-take, length-drop, length-replicate, getD-replicate, drop-of-length-le, List·getD-append, List·getD-eq-default, length-reverse}
 use lib.Seq.{length-take-le, take-add, take-length, take-all, take-at, drop-at, drop-drop, take-take, take-append-le, take-append-add, drop-append-seam, take-append-seam, getD-append-add, getD-take, getD-drop, getD-set-same, getD-set-other, sets-eq, set-split, paste, paste-zero, paste-suc, drop-cons, append-snoc}
 use borrow.Author.Tests.{eq-eqb, ne-eqb, eqb-true, eqb-false, ltb-true}
-use Rattle.rules.specs.Octets.{Bytes, AreBytes, byteAt, wordAt, longAt, be32, be64, zeros, padded, filled, part, put, lay, nulIn, hasNul, same, begins, ends, holds}
+use Rattle.rules.specs.Octets.{Bytes, AreBytes, byteAt, wordAt, longAt, be32, be64, zeros, padded, filled, part, put, lay, lengthTo, nulIn, hasNul, same, begins, ends, holds}
 use Rattle.rules.specs.Laws.Tests.{by-test, by-le, never, both-ways, and-true, not-passed}
 
 -- ---- parts
@@ -338,53 +338,66 @@ pub length-filled : (bs : Bytes) → length (filled bs) ≡ padded (length bs)
 unfolding filled
 length-filled bs = rw (length-append, length-zeros) (omega (arith, padded-le (length bs)))
 
+-- ---- the bytes before the first of a kind
+
+module _ (byte : ℕ) where
+  -- such a byte at i: nothing stands before it
+  pub to-here : (s : Bytes) (i : ℕ) → i < length s → byteAt s i ≡ byte → lengthTo byte (drop i s) ≡ 0
+  unfolding lengthTo
+  to-here s i h e = rw (drop-cons s i 0, eq-eqb (byteAt s i) byte e, lengthTo)
+
+  -- another byte at i: one more than from i + 1 on
+  pub to-more : (s : Bytes) (i : ℕ) → i < length s → (byteAt s i ≡ byte → ⊥) → lengthTo byte (drop i s) ≡ lengthTo byte (drop (i + 1) s) + 1
+  unfolding lengthTo
+  to-more s i h e = rw (drop-cons s i 0, ne-eqb (byteAt s i) byte e, lengthTo) (rw (add-one i) (sym (add-one _)))
+
+  pub to-end : (s : Bytes) (i : ℕ) → length s ≤ i → lengthTo byte (drop i s) ≡ 0
+  unfolding lengthTo
+  to-end s i h = rw drop-of-length-le
+
+  -- by the test
+  pub to-stop : (b : ℕ) (s : Bytes) → eqb b byte ≡ true → lengthTo byte (b ∷ s) ≡ 0
+  unfolding lengthTo
+  to-stop b s e = rw (e, lengthTo)
+
+  pub to-on : (b : ℕ) (s : Bytes) → eqb b byte ≡ false → lengthTo byte (b ∷ s) ≡ suc (lengthTo byte s)
+  unfolding lengthTo
+  to-on b s e = rw (e, lengthTo)
+
+  pub to-le : (s : Bytes) → lengthTo byte s ≤ length s
+  unfolding lengthTo
+  to-le [] = omega arith
+  to-le (b ∷ s) = by-test (eqb b byte)
+      (λ e. rw (to-stop b s e) (omega arith))
+      (λ e. omega (arith, to-on b s e, to-le s))
+
+  -- inside, such a byte stands there
+  pub to-byte : (s : Bytes) → lengthTo byte s < length s → byteAt s (lengthTo byte s) ≡ byte
+  to-byte [] h = absurd (omega arith)
+  to-byte (b ∷ s) h = by-test (eqb b byte)
+      (λ e. rw (to-stop b s e) (eqb-true b byte e))
+      (λ e. let q = to-on b s e in rw q (to-byte s (omega arith)))
+
 -- ---- NUL
 
--- a NUL at i: nothing stands before it
-pub nul-here : (s : Bytes) (i : ℕ) → i < length s → byteAt s i ≡ 0 → nulIn (drop i s) ≡ 0
-unfolding nulIn
-nul-here s i h e = rw (drop-cons s i 0, e, nulIn)
-
--- another byte at i: one more than from i + 1 on
-pub nul-more : (s : Bytes) (i : ℕ) → i < length s → (byteAt s i ≡ 0 → ⊥) → nulIn (drop i s) ≡ nulIn (drop (i + 1) s) + 1
-unfolding nulIn
-nul-more s i h e = rw (drop-cons s i 0, ne-eqb (byteAt s i) 0 e, nulIn) (rw (add-one i) (sym (add-one _)))
-
-pub nul-end : (s : Bytes) (i : ℕ) → length s ≤ i → nulIn (drop i s) ≡ 0
-unfolding nulIn
-nul-end s i h = rw drop-of-length-le
-
-pub nul-cons : (b : ℕ) (s : Bytes) → (b ≡ 0 → ⊥) → nulIn (b ∷ s) ≡ suc (nulIn s)
-unfolding nulIn
-nul-cons b s h = rw (ne-eqb b 0 h, nulIn)
-
--- the same by the test
 pub nul-stop : (b : ℕ) (s : Bytes) → eqb b 0 ≡ true → nulIn (b ∷ s) ≡ 0
-unfolding nulIn
-nul-stop b s e = rw (e, nulIn)
+nul-stop = to-stop 0
 
 pub nul-on : (b : ℕ) (s : Bytes) → eqb b 0 ≡ false → nulIn (b ∷ s) ≡ suc (nulIn s)
-unfolding nulIn
-nul-on b s e = rw (e, nulIn)
+nul-on = to-on 0
+
+pub nul-cons : (b : ℕ) (s : Bytes) → (b ≡ 0 → ⊥) → nulIn (b ∷ s) ≡ suc (nulIn s)
+nul-cons b s h = to-on 0 b s (ne-eqb b 0 h)
 
 pub nul-first : (s : Bytes) → nulIn (0 ∷ s) ≡ 0
-unfolding nulIn
-nul-first s = refl
+nul-first s = to-stop 0 0 s refl
 
--- it stands inside, or at the end
 pub nul-le : (s : Bytes) → nulIn s ≤ length s
-unfolding nulIn
-nul-le [] = omega arith
-nul-le (b ∷ s) = by-test (eqb b 0)
-    (λ e. rw (eqb-true b 0 e, nul-first s) (omega arith))
-    (λ e. omega (arith, nul-cons b s (eqb-false b 0 e), nul-le s))
+nul-le = to-le 0
 
 -- where one stands inside, it is a NUL
 pub nul-byte : (s : Bytes) → nulIn s < length s → byteAt s (nulIn s) ≡ 0
-nul-byte [] h = absurd (omega arith)
-nul-byte (b ∷ s) h = by-test (eqb b 0)
-    (λ e. rw (eqb-true b 0 e, nul-first s))
-    (λ e. let q = nul-cons b s (eqb-false b 0 e) in rw q (nul-byte s (omega arith)))
+nul-byte = to-byte 0
 
 -- and none stands before it
 pub nul-before : (s : Bytes) (i : ℕ) → i < nulIn s → byteAt s i ≡ 0 → ⊥

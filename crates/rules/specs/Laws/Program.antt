@@ -7,45 +7,16 @@ use Prim.Native.Nat.{ℕ, zero, suc, _+_, _-_, _*_, _/_, _%_, _^_, _≤_, _<_}
 use native.Mathlib.Nat.{add-assoc, zero-add}
 use native.Mathlib.Omega.{arith}
 use native.Mathlib.Numerals.{add-one}
-use lib.Dec.{eqb, leb, ltb}
+use lib.Dec.{leb, ltb}
 use lib.ListN.{length, take, drop, length-append, length-drop, drop-of-length-le}
 use lib.Seq.{drop-cons, drop-drop}
-use borrow.Author.Tests.{eqb-true, eqb-false, eq-eqb, ne-eqb, lt-leb, le-leb, ltb-false, lt-ltb, le-ltb}
+use borrow.Author.Tests.{eq-eqb, ne-eqb, lt-leb, le-leb, ltb-false, lt-ltb, le-ltb}
 use Rattle.rules.specs.Octets.{Bytes, if_then_else_, byteAt, part, lay}
 use Rattle.rules.specs.Lists.{every}
 use Rattle.rules.specs.Outcome.{passes, refuses}
 use Rattle.rules.specs.Program.{lineEnd, Line, linesFrom, linesOf, Said, configures, excludes, names, other, decimalAfter, digit, decimalSaid, lineSaid, isOther, linesJudged, configuredBy, excludedBy, namedBy, digitsFrom, decimal}
 use Rattle.rules.specs.Laws.Tests.{by-test}
-use Rattle.rules.specs.Laws.Octets.{lay-nil, lay-lay}
-
--- ---- where a line ends
-
-pub line-here : (s : Bytes) (i : ℕ) → i < length s → byteAt s i ≡ 10 → lineEnd (drop i s) ≡ 0
-unfolding lineEnd
-line-here s i h e = rw (drop-cons s i 0, e, lineEnd)
-
-pub line-more : (s : Bytes) (i : ℕ) → i < length s → (byteAt s i ≡ 10 → ⊥) → lineEnd (drop i s) ≡ lineEnd (drop (i + 1) s) + 1
-unfolding lineEnd
-line-more s i h e = rw (drop-cons s i 0, ne-eqb (byteAt s i) 10 e, lineEnd) (rw (add-one i) (sym (add-one _)))
-
-pub line-end : (s : Bytes) (i : ℕ) → length s ≤ i → lineEnd (drop i s) ≡ 0
-unfolding lineEnd
-line-end s i h = rw drop-of-length-le
-
-line-cons : (b : ℕ) (s : Bytes) → (b ≡ 10 → ⊥) → lineEnd (b ∷ s) ≡ suc (lineEnd s)
-unfolding lineEnd
-line-cons b s h = rw (ne-eqb b 10 h, lineEnd)
-
-line-first : (s : Bytes) → lineEnd (10 ∷ s) ≡ 0
-unfolding lineEnd
-line-first s = refl
-
-pub line-le : (s : Bytes) → lineEnd s ≤ length s
-unfolding lineEnd
-line-le [] = omega arith
-line-le (b ∷ s) = by-test (eqb b 10)
-    (λ e. rw (eqb-true b 10 e, line-first s) (omega arith))
-    (λ e. omega (arith, line-cons b s (eqb-false b 10 e), line-le s))
+use Rattle.rules.specs.Laws.Octets.{lay-nil, lay-lay, to-le}
 
 -- ---- the lines from a place on
 
@@ -99,7 +70,7 @@ lines-last s at h = lines-end s (at + lineEnd (drop at s) + 1) (omega arith) ∙
 
 -- a line ends inside the input
 pub lines-inside : (s : Bytes) (at : ℕ) → at < length s → at + lineEnd (drop at s) ≤ length s
-lines-inside s at h = omega (arith, line-le (drop at s), length-drop at s)
+lines-inside s at h = omega (arith, to-le 10 (drop at s), length-drop at s)
 
 -- ---- 41 of the lines, one by one
 

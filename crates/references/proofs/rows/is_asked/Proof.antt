@@ -1,7 +1,7 @@
 -- `is_asked` meets its contract: the cells properties of the rows stand in the table, one each 22 bytes.
 use mathlib.Core.Path.{refl}
 use denote.Ref.{now}
-use Rattle.rules.specs.Octets.{ascii, nulIn, same}
+use Rattle.rules.specs.Octets.{ascii, lengthTo, same}
 use Rattle.rules.specs.References.{cellRows}
 use Rattle.references.specs.Rows.{asked}
 use Rattle.references.proofs.Names.{text-named, none-named}
@@ -26,7 +26,7 @@ same-requires : tie.Need-same-requires
 same-requires c κs = tt
 
 returns-2 : tie.Need-returns-2
-unfolding cellRows ascii nulIn same
+unfolding cellRows ascii lengthTo same
 returns-2 c = text-named 22 (asked cellRows) _ (now (c .before .before .before .before .before .args .name)) (c .before .before .before .before .before .args .row) (now (c .before .string-at .result)) (c .same .result) (c .same .ensures) (c .before .string-at .ensures) (c .before .before .before .if1 .left) refl
 
 pub is-asked-spec : {M : Type 1} → statement M

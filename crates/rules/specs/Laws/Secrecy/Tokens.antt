@@ -10,7 +10,7 @@ use lib.ListN.{length, getD, take, drop, length-take, length-drop}
 use lib.Seq.{ext-getD, getD-take, getD-drop}
 use lib.Dec.{eqb, leb, ltb}
 use borrow.Author.Tests.{eqb-true, leb-true, ltb-true}
-use Rattle.rules.specs.Octets.{Bytes, wordAt, nulIn, part}
+use Rattle.rules.specs.Octets.{Bytes, wordAt, lengthTo, nulIn, part}
 use Rattle.rules.specs.Outcome.{Verdict}
 use Rattle.rules.specs.Blob.{Block}
 use Rattle.rules.specs.Tokens.{Placed, beginAt, propAt, tagged, tokenAt, following, tokensFrom, tokens}
@@ -53,7 +53,7 @@ part-same s c v n e h =
 
 -- where the first NUL stands is known by the bytes up to it
 nul-same : (s c : Bytes) → length s ≡ length c → ((i : ℕ) → i ≤ nulIn s → getD s i 0 ≡ getD c i 0) → nulIn s ≡ nulIn c
-unfolding nulIn
+unfolding lengthTo
 nul-same [] [] e h = refl
 nul-same [] (y ∷ c) e h = absurd (omega arith)
 nul-same (x ∷ s) [] e h = absurd (omega arith)
