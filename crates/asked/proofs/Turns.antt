@@ -18,7 +18,7 @@ use Rattle.rules.specs.Laws.Formed.{named-step, named-skip, named-mem}
 use Rattle.rules.specs.Laws.Given.{givenAt, given-all, Told, told-none, told-more}
 use Rattle.rules.specs.Laws.Program.{Laying, laying-none, laying-more, laying-bytes, laying-count}
 use Rattle.rules.specs.Laws.Tabled.{tree-length, treeOf}
-use Rattle.references.specs.declared.table.Found.{Found}
+use Rattle.references.specs.declared.table.Node.{Node}
 use Rattle.references.specs.Table.{found}
 use Rattle.given.specs.declared.Entry.{Entry}
 use Rattle.given.specs.declared.Entry.the-variants.{Path, Done}
@@ -33,7 +33,7 @@ at-small place structure strings ws count p i e =
     omega (arith, named-mem (frame (treeOf place structure strings ws count)) (g ∷ []) i (rw m (List·Memᴰ·head refl)) .0, tree-length (record { place = place; structure = structure; strings = strings }) ws count 0)
 
 -- what a look-up found, of the path as it was lent
-pub told-at : (f : Frame) (list p : Bytes) (at len : ℕ) (r : Found) (o : Option ℕ) → p ≡ part list at len → found r ≡ nodeAt f p → found r ≡ o → nodeAt f (part list at len) ≡ o
+pub told-at : (f : Frame) (list p : Bytes) (at len : ℕ) (r : Node) (o : Option ℕ) → p ≡ part list at len → found r ≡ nodeAt f p → found r ≡ o → nodeAt f (part list at len) ≡ o
 told-at f list p at len r o e g h = ap (nodeAt f) (sym e) ∙ sym g ∙ h
 
 -- the entry at a place

@@ -4,7 +4,7 @@
 use given::Entry;
 use given::entry_at;
 use paths::lookup::node_at;
-use references::table::Found;
+use references::table::Node;
 ghost use mathlib.Core.Path.{_≡_};
 ghost use Prim.Native.Nat.{_≤_};
 ghost use lib.ListN.{length, take};
@@ -67,8 +67,7 @@ pub fn configured(
         else {
             return Named::Nodes(n);
         };
-        let Found::At(i) = node_at(structure, place, work, count, octets::part(list, at, len))
-        else {
+        let Node::At(i) = node_at(structure, place, work, count, octets::part(list, at, len)) else {
             return Named::Refused { at };
         };
         if one_of(out, n, i) {
@@ -106,12 +105,12 @@ pub fn excluded(
             return n;
         };
         match node_at(structure, place, work, count, octets::part(list, at, len)) {
-            Found::At(i) => {
+            Node::At(i) => {
                 octets::put_word_of(out, n, i as u32);
                 n += 1;
                 at = next;
             }
-            Found::Nothing => {
+            Node::Nothing => {
                 at = next;
             }
         }

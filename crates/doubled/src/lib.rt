@@ -35,8 +35,15 @@ fn named_at(name: &[u8], tail: &[u8]) -> bool
 }
 
 // Whether node j has this parent and this name, by its row.
-fn row_named(s: &[u8], place: usize, work: &[u32], j: usize, parent: u32, name: &[u8]) -> bool
-    ensures { λ r. ⌜ r ≡ rowNamed (now (s .entry)) place (now (work .entry)) j parent (now (name .entry)) ⌝ }
+fn row_named(
+    structure: &[u8],
+    place: usize,
+    work: &[u32],
+    j: usize,
+    parent: u32,
+    name: &[u8],
+) -> bool
+    ensures { λ r. ⌜ r ≡ rowNamed (now (structure .entry)) place (now (work .entry)) j parent (now (name .entry)) ⌝ }
 {
     if work.len() / NODE_WORDS <= j {
         return false;
@@ -49,17 +56,27 @@ fn row_named(s: &[u8], place: usize, work: &[u32], j: usize, parent: u32, name: 
     if begin < place {
         return false;
     }
-    named_at(name, octets::part(s, begin - place + 4, s.len()))
+    named_at(
+        name,
+        octets::part(structure, begin - place + 4, structure.len()),
+    )
 }
 
 // Whether a node before i has this parent and this name, by its row. A node stands behind its parent, so that no row before the
 // parent's is looked at.
-fn sibling_below(s: &[u8], place: usize, work: &[u32], i: usize, parent: u32, name: &[u8]) -> bool
-    ensures { λ r. ⌜ r ≡ siblingBelow (now (s .entry)) place (now (work .entry)) i parent (now (name .entry)) ⌝ }
+fn sibling_below(
+    structure: &[u8],
+    place: usize,
+    work: &[u32],
+    i: usize,
+    parent: u32,
+    name: &[u8],
+) -> bool
+    ensures { λ r. ⌜ r ≡ siblingBelow (now (structure .entry)) place (now (work .entry)) i parent (now (name .entry)) ⌝ }
 {
     let mut j = parent as usize;
     while j < i {
-        if row_named(s, place, work, j, parent, name) {
+        if row_named(structure, place, work, j, parent, name) {
             return true;
         }
         j += 1;
@@ -79,7 +96,7 @@ fn row_parent(work: &[u32], i: usize) -> u32
 
 // Judges node i, whose BEGIN stands at a place and whose properties begin at `next`: its name, then its properties.
 fn node(
-    s: &[u8],
+    structure: &[u8],
     strings: &[u8],
     place: usize,
     work: &mut [u32],
@@ -88,35 +105,35 @@ fn node(
     len: usize,
     next: usize,
 ) -> Found
-    requires { ⌜ (at + 4 ≤ length (now s)) × (next ≤ length (now s)) ⌝ }
-    ensures judged { λ r. ⌜ (workWords ≤ length (now (work .entry)) → (p : ℕ) → verdict 10 p r ≡ nodeJudged (now (s .entry)) (now (strings .entry)) place (now (work .entry)) i at len next p) ⌝ }
-    ensures inside { λ r. ⌜ Inside (now (s .entry)) r ⌝ }
+    requires { ⌜ (at + 4 ≤ length (now structure)) × (next ≤ length (now structure)) ⌝ }
+    ensures judged { λ r. ⌜ (workWords ≤ length (now (work .entry)) → (p : ℕ) → verdict 10 p r ≡ nodeJudged (now (structure .entry)) (now (strings .entry)) place (now (work .entry)) i at len next p) ⌝ }
+    ensures inside { λ r. ⌜ Inside (now (structure .entry)) r ⌝ }
     ensures kept { λ _. ⌜ (Clear (now (work .entry)) → now (work .exit) ≡ now (work .entry)) ⌝ }
 {
-    let name = octets::part(s, at + 4, len);
-    if sibling_below(s, place, work, i, row_parent(work, i), name) {
+    let name = octets::part(structure, at + 4, len);
+    if sibling_below(structure, place, work, i, row_parent(work, i), name) {
         return Found::At(at);
     }
-    doubled_props(s, strings, work, next)
+    doubled_props(structure, strings, work, next)
 }
 
-// Judges refusal 10 in the structure block s, which stands at `place` in the blob, with this strings block; `work` holds the
+// Judges refusal 10 in the structure block, which stands at `place` in the blob, with this strings block; `work` holds the
 // node table, and zeros behind it, which are used on the way and are zero again at return. Answers Nothing, or At the first
 // token whose name an earlier sibling, or an earlier property of its node, has.
-pub fn doubled(s: &[u8], strings: &[u8], place: usize, work: &mut [u32]) -> Found
-    ensures judged { λ r. ⌜ (Table (now (work .entry)) (nodesIn (now (s .entry)) (now (strings .entry)) place) → verdict 10 place r ≡ doubledJudged (nodesIn (now (s .entry)) (now (strings .entry)) place)) ⌝ }
-    ensures inside { λ r. ⌜ Inside (now (s .entry)) r ⌝ }
-    ensures kept { λ _. ⌜ (Table (now (work .entry)) (nodesIn (now (s .entry)) (now (strings .entry)) place) → now (work .exit) ≡ now (work .entry)) ⌝ }
+pub fn doubled(structure: &[u8], strings: &[u8], place: usize, work: &mut [u32]) -> Found
+    ensures judged { λ r. ⌜ (Table (now (work .entry)) (nodesIn (now (structure .entry)) (now (strings .entry)) place) → verdict 10 place r ≡ doubledJudged (nodesIn (now (structure .entry)) (now (strings .entry)) place)) ⌝ }
+    ensures inside { λ r. ⌜ Inside (now (structure .entry)) r ⌝ }
+    ensures kept { λ _. ⌜ (Table (now (work .entry)) (nodesIn (now (structure .entry)) (now (strings .entry)) place) → now (work .exit) ≡ now (work .entry)) ⌝ }
 {
     let mut at = 0;
     let mut count = 0;
     loop {
-        let Token::Item { kind, next } = tokens::token_at(s, at) else {
+        let Token::Item { kind, next } = tokens::token_at(structure, at) else {
             return Found::Nothing;
         };
         match kind {
             Kind::Begin { len } => {
-                let found = node(s, strings, place, work, count, at, len, next);
+                let found = node(structure, strings, place, work, count, at, len, next);
                 let Found::Nothing = found else {
                     return found;
                 };

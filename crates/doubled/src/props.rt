@@ -36,9 +36,9 @@ pub enum Built {
 }
 
 // How many properties stand from a place on.
-fn count(s: &[u8], from: usize) -> usize
-    requires { ⌜ from ≤ length (now s) ⌝ }
-    ensures { λ r. ⌜ ((strings : Bytes) (place : ℕ) → r ≡ length (propsAt (now (s .entry)) strings place from)) ⌝ }
+fn count(structure: &[u8], from: usize) -> usize
+    requires { ⌜ from ≤ length (now structure) ⌝ }
+    ensures { λ r. ⌜ ((strings : Bytes) (place : ℕ) → r ≡ length (propsAt (now (structure .entry)) strings place from)) ⌝ }
 {
     let mut n = 0;
     let mut at = from;
@@ -49,7 +49,7 @@ fn count(s: &[u8], from: usize) -> usize
             name: _,
             value: _,
             next,
-        } = tokens::property_at(s, at)
+        } = tokens::property_at(structure, at)
         else {
             return n;
         };
@@ -59,9 +59,9 @@ fn count(s: &[u8], from: usize) -> usize
 }
 
 // The first of `left` properties from a place on whose name is in the chunk, which is full.
-fn lookup(s: &[u8], strings: &[u8], work: &[u32], from: usize, left: usize) -> Hit
-    requires { ⌜ (from ≤ length (now s)) × (workWords ≤ length (now work)) × Ordered (now strings) (now work) chunkRoom ⌝ }
-    ensures { λ r. ⌜ Meets (now (s .entry)) (now (strings .entry)) (now (work .entry)) from left r ⌝ }
+fn lookup(structure: &[u8], strings: &[u8], work: &[u32], from: usize, left: usize) -> Hit
+    requires { ⌜ (from ≤ length (now structure)) × (workWords ≤ length (now work)) × Ordered (now strings) (now work) chunkRoom ⌝ }
+    ensures { λ r. ⌜ Meets (now (structure .entry)) (now (strings .entry)) (now (work .entry)) from left r ⌝ }
 {
     let mut i = 0;
     let mut here = from;
@@ -72,7 +72,7 @@ fn lookup(s: &[u8], strings: &[u8], work: &[u32], from: usize, left: usize) -> H
             name,
             value: _,
             next,
-        } = tokens::property_at(s, here)
+        } = tokens::property_at(structure, here)
         else {
             return Hit::Missing;
         };
@@ -87,9 +87,9 @@ fn lookup(s: &[u8], strings: &[u8], work: &[u32], from: usize, left: usize) -> H
 }
 
 // Makes a chunk of the first of `left` properties from a place on.
-fn build(s: &[u8], strings: &[u8], work: &mut [u32], from: usize, left: usize) -> Built
-    requires { ⌜ (from ≤ length (now s)) × (workWords ≤ length (now work)) ⌝ }
-    ensures built { λ r. ⌜ Builds (now (s .entry)) (now (strings .entry)) from left (now (work .exit)) r ⌝ }
+fn build(structure: &[u8], strings: &[u8], work: &mut [u32], from: usize, left: usize) -> Built
+    requires { ⌜ (from ≤ length (now structure)) × (workWords ≤ length (now work)) ⌝ }
+    ensures built { λ r. ⌜ Builds (now (structure .entry)) (now (strings .entry)) from left (now (work .exit)) r ⌝ }
     ensures framed { λ _. ⌜ Framed (now (work .entry)) (taken left) (now (work .exit)) ⌝ }
 {
     let mut n = 0;
@@ -104,7 +104,7 @@ fn build(s: &[u8], strings: &[u8], work: &mut [u32], from: usize, left: usize) -
             name,
             value: _,
             next,
-        } = tokens::property_at(s, here)
+        } = tokens::property_at(structure, here)
         else {
             return Built::Done;
         };
@@ -113,7 +113,7 @@ fn build(s: &[u8], strings: &[u8], work: &mut [u32], from: usize, left: usize) -
             return Built::Twice(at);
         };
         // the offset again, as the word that it is
-        insert(work, n, spot, octets::word(s, at + 8));
+        insert(work, n, spot, octets::word(structure, at + 8));
         n += 1;
         here = next;
     }
@@ -122,17 +122,17 @@ fn build(s: &[u8], strings: &[u8], work: &mut [u32], from: usize, left: usize) -
 
 // The first property from a place on, where so many stand, that has the name of one before it. Each chunk is looked for in what
 // is behind it, up to the earliest that is found so far.
-fn chunks(s: &[u8], strings: &[u8], work: &mut [u32], from: usize, all: usize) -> Found
-    requires { ⌜ (from ≤ length (now s)) × (workWords ≤ length (now work)) × ((place : ℕ) → all ≡ length (propsAt (now s) (now strings) place from)) ⌝ }
-    ensures judged { λ r. ⌜ ((place : ℕ) → verdict 10 place r ≡ doubledProps [] (propsAt (now (s .entry)) (now (strings .entry)) place from)) ⌝ }
-    ensures inside { λ r. ⌜ Inside (now (s .entry)) r ⌝ }
+fn chunks(structure: &[u8], strings: &[u8], work: &mut [u32], from: usize, all: usize) -> Found
+    requires { ⌜ (from ≤ length (now structure)) × (workWords ≤ length (now work)) × ((place : ℕ) → all ≡ length (propsAt (now structure) (now strings) place from)) ⌝ }
+    ensures judged { λ r. ⌜ ((place : ℕ) → verdict 10 place r ≡ doubledProps [] (propsAt (now (structure .entry)) (now (strings .entry)) place from)) ⌝ }
+    ensures inside { λ r. ⌜ Inside (now (structure .entry)) r ⌝ }
     ensures framed { λ _. ⌜ Framed (now (work .entry)) (taken all) (now (work .exit)) ⌝ }
 {
     let mut left = all;
     let mut here = from;
     let mut found = Found::Nothing;
     while 0 < left {
-        match build(s, strings, work, here, left) {
+        match build(structure, strings, work, here, left) {
             Built::Twice(at) => {
                 return Found::At(at);
             }
@@ -142,7 +142,7 @@ fn chunks(s: &[u8], strings: &[u8], work: &mut [u32], from: usize, all: usize) -
             Built::Full(next) => {
                 left -= CHUNK_ROOM;
                 here = next;
-                if let Hit::Here { index, at } = lookup(s, strings, work, next, left) {
+                if let Hit::Here { index, at } = lookup(structure, strings, work, next, left) {
                     left = index;
                     found = Found::At(at);
                 }
@@ -153,17 +153,17 @@ fn chunks(s: &[u8], strings: &[u8], work: &mut [u32], from: usize, all: usize) -
 }
 
 // The first property from a place on that has the name of one before it. The words of the chunk are zero again at return.
-pub fn doubled_props(s: &[u8], strings: &[u8], work: &mut [u32], from: usize) -> Found
-    requires { ⌜ from ≤ length (now s) ⌝ }
-    ensures judged { λ r. ⌜ (workWords ≤ length (now (work .entry)) → (place : ℕ) → verdict 10 place r ≡ doubledProps [] (propsAt (now (s .entry)) (now (strings .entry)) place from)) ⌝ }
-    ensures inside { λ r. ⌜ Inside (now (s .entry)) r ⌝ }
+pub fn doubled_props(structure: &[u8], strings: &[u8], work: &mut [u32], from: usize) -> Found
+    requires { ⌜ from ≤ length (now structure) ⌝ }
+    ensures judged { λ r. ⌜ (workWords ≤ length (now (work .entry)) → (place : ℕ) → verdict 10 place r ≡ doubledProps [] (propsAt (now (structure .entry)) (now (strings .entry)) place from)) ⌝ }
+    ensures inside { λ r. ⌜ Inside (now (structure .entry)) r ⌝ }
     ensures kept { λ _. ⌜ (Clear (now (work .entry)) → now (work .exit) ≡ now (work .entry)) ⌝ }
 {
     if work.len() < WORK_WORDS {
         return Found::Nothing;
     }
-    let all = count(s, from);
-    let found = chunks(s, strings, work, from, all);
+    let all = count(structure, from);
+    let found = chunks(structure, strings, work, from, all);
     octets::clear_from(work, CHUNK_START, taken(all));
     found
 }

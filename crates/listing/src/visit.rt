@@ -8,7 +8,6 @@ use references::scan::Next;
 use references::scan::next_reference;
 use references::table::begin_of;
 use tokens::Property;
-ghost use mathlib.Core.Path.{_≡_};
 ghost use mathlib.Core.List.{[], map};
 ghost use Prim.Native.Nat.{ℕ, _<_};
 ghost use Rattle.rules.specs.Blob.{blockOf};

@@ -19,7 +19,7 @@ use Rattle.rules.specs.Laws.Kept.{lay-before}
 use Rattle.rules.specs.Laws.Paths.{Formed}
 use Rattle.rules.specs.Laws.Tabled.{tree-length, treeOf}
 use Rattle.paths.specs.Order.{Orders}
-use Rattle.order.specs.Region.{nodeOf, Ordered, Between, Halves, inserted}
+use Rattle.order.specs.Region.{nthNode, Ordered, Between, Halves, inserted}
 
 -- ---- words laid over and in front of others
 
@@ -72,7 +72,7 @@ module _ (ws : List ℕ) (n i : ℕ) (vs : List ℕ) (e : vs ≡ moved ws n i) w
     k = i - 1
 
     -- the one that is moved is as it was
-    same-word : nodeOf vs k ≡ getD ws (stackAt + k) 0
+    same-word : nthNode vs k ≡ getD ws (stackAt + k) 0
     unfolding moved k
     same-word = rw e (lay-before ws (stackAt + (i + 1)) (part ws (stackAt + i) (n - i)) 0 (stackAt + k) (omega arith))
 
@@ -83,7 +83,7 @@ module _ (ws : List ℕ) (n i : ℕ) (vs : List ℕ) (e : vs ≡ moved ws n i) w
         let q : stackAt + i ≡ suc (stackAt + k) = omega arith in
         rw (p, drop-cons ws (stackAt + k) 0 h, q)
 
-    pub moved-more : lay vs (stackAt + i) (nodeOf vs (i - 1) ∷ []) ≡ moved ws n (i - 1)
+    pub moved-more : lay vs (stackAt + i) (nthNode vs (i - 1) ∷ []) ≡ moved ws n (i - 1)
     unfolding moved k
     moved-more =
         let q : stackAt + i ≡ stackAt + (k + 1) = omega arith in
@@ -102,7 +102,7 @@ module _ (ws : List ℕ) (n i : ℕ) (vs : List ℕ) (e : vs ≡ moved ws n i) w
 -- ---- nodes laid into a work space
 
 module _ (ws l : List ℕ) (room : stackAt + length l ≤ length ws) where
-  pub laid-at : (i : ℕ) → i < length l → nodeOf (lay ws stackAt l) i ≡ getD l i 0
+  pub laid-at : (i : ℕ) → i < length l → nthNode (lay ws stackAt l) i ≡ getD l i 0
   laid-at i h = rw (lay-put ws stackAt l room) (put-inside ws stackAt l i 0 h (omega arith))
 
   laid-part : (at : ℕ) → at ≤ length l → part (lay ws stackAt l) (stackAt + at) (length l - at) ≡ drop at l
@@ -129,7 +129,7 @@ module _ (ws l : List ℕ) (room : stackAt + length l ≤ length ws) where
 
 module _ (t : Tree) (ws : List ℕ) (n x : ℕ) (o : Ordered t ws n) where
   abbrev first : ℕ → Bytes
-  first i = path t (nodeOf ws i)
+  first i = path t (nthNode ws i)
 
   -- nothing is known yet
   pub between-start : Between t ws n x 0 n
@@ -157,11 +157,11 @@ module _ (t : Tree) (ws : List ℕ) (n x : ℕ) (o : Ordered t ws n) where
 
 -- one turn of the search: the node y in the middle is asked
 module _ (place : ℕ) (structure strings : Bytes) (ws : List ℕ) (count n x low high m y : ℕ) (r : Bool) (l : m < n)
-    (b : Halves place structure strings ws count n x low high) (e : y ≡ nodeOf ws m) (a : Orders place structure strings ws count y x r) where
+    (b : Halves place structure strings ws count n x low high) (e : y ≡ nthNode ws m) (a : Orders place structure strings ws count y x r) where
   abbrev t : Tree
   t = treeOf place structure strings ws count
 
-  asked : Formed t → Ordered t ws n → x < count → r ≡ before (path t (nodeOf ws m)) (path t x)
+  asked : Formed t → Ordered t ws n → x < count → r ≡ before (path t (nthNode ws m)) (path t x)
   asked w o h =
       a w (omega (arith, e, o .small m l, tree-length (record { place = place; structure = structure; strings = strings }) ws count 0)) h
       ∙ ap (λ (k : ℕ). before (path t k) (path t x)) e

@@ -21,7 +21,7 @@ use Rattle.rules.specs.Laws.Starts.{sorted-ascending, starts-within}
 use Rattle.rules.specs.Laws.Tabled.{treeIn, tree-length}
 use Rattle.rules.specs.Laws.Octets.{lay-nil}
 use Rattle.rules.specs.Laws.Kept.{tree-alike, lay-alike, marks-behind, list-behind, stack-behind, names-behind, names-inside}
-use Rattle.order.specs.Region.{nodeOf, Ordered, Between, inserted}
+use Rattle.order.specs.Region.{nthNode, Ordered, Between, inserted}
 use Rattle.order.specs.Starts.{Asked, startsFrom, Placed, Started}
 use Rattle.order.proofs.Regions.{laid-at, laid-insert}
 
@@ -103,7 +103,7 @@ module _ (b : Block) (ws : List ℕ) (count : ℕ) (conf : List ℕ) (a : Asked 
         from-small (i + 1) x (omega arith)
         (keep-of (within (frame t) conf) (numbersFrom (i + 1) (count - (i + 1))) x (sort-of (path t) (keep (within (frame t) conf) (numbersFrom (i + 1) (count - (i + 1)))) x k) .0)
 
-    node-later : (k : ℕ) → k < n → nodeOf vs k ≡ getD later k 0
+    node-later : (k : ℕ) → k < n → nthNode vs k ≡ getD later k 0
     node-later k l = rw (p .laid) (laid-at ws later room k (omega (arith, p .many)))
 
     pub ordered-kept : Ordered (treeIn b vs count) vs n

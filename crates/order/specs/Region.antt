@@ -11,18 +11,18 @@ use Rattle.rules.specs.Laws.Paths.{Formed}
 use Rattle.rules.specs.Laws.Tabled.{treeOf}
 
 -- the node at an index
-abbrev pub nodeOf : List ℕ → ℕ → ℕ
-nodeOf ws i = getD ws (stackAt + i) 0
+abbrev pub nthNode : List ℕ → ℕ → ℕ
+nthNode ws i = getD ws (stackAt + i) 0
 
 -- the first n are nodes of the tree, in byte order of path
 pub record Ordered (t : Tree) (ws : List ℕ) (n : ℕ) : Type 0 where
-  pub small : (i : ℕ) → i < n → nodeOf ws i < length t
-  pub rising : (i j : ℕ) → i < j → j < n → before (path t (nodeOf ws i)) (path t (nodeOf ws j)) ≡ true
+  pub small : (i : ℕ) → i < n → nthNode ws i < length t
+  pub rising : (i j : ℕ) → i < j → j < n → before (path t (nthNode ws i)) (path t (nthNode ws j)) ≡ true
 
 -- those below `low` come before x, and those from `high` on do not
 pub record Between (t : Tree) (ws : List ℕ) (n x low high : ℕ) : Type 0 where
-  pub lower : (i : ℕ) → i < low → before (path t (nodeOf ws i)) (path t x) ≡ true
-  pub upper : (i : ℕ) → high ≤ i → i < n → before (path t (nodeOf ws i)) (path t x) ≡ false
+  pub lower : (i : ℕ) → i < low → before (path t (nthNode ws i)) (path t x) ≡ true
+  pub upper : (i : ℕ) → high ≤ i → i < n → before (path t (nthNode ws i)) (path t x) ≡ false
 
 -- the same, of the tree of a table
 abbrev pub Halves : (place : ℕ) (structure strings : Bytes) (words : List ℕ) (count n x low high : ℕ) → Type 0

@@ -7,12 +7,12 @@ ghost use Prim.Native.Nat.{_+_, _≤_, _<_};
 ghost use Rattle.rules.specs.Ceilings.{nodeCeiling};
 ghost use Rattle.rules.specs.Octets.{Bytes, lay};
 ghost use Rattle.rules.specs.Space.{stackAt};
-ghost use Rattle.order.specs.Region.{nodeOf, Halves, inserted};
+ghost use Rattle.order.specs.Region.{nthNode, Halves, inserted};
 
 // The node at an index; 0 past the end of the work space.
-fn node_of(work: &[u32], i: usize) -> u32
+fn nth_node(work: &[u32], i: usize) -> u32
     requires { ⌜ i ≤ nodeCeiling ⌝ }
-    ensures { λ r. ⌜ r ≡ nodeOf (now (work .entry)) i ⌝ }
+    ensures { λ r. ⌜ r ≡ nthNode (now (work .entry)) i ⌝ }
 {
     octets::word_of(work, STACK_AT + i)
 }
@@ -42,7 +42,7 @@ pub fn halved(
     let mut high = n;
     while low < high {
         let middle = low + (high - low) / 2;
-        let y = node_of(work, middle) as usize;
+        let y = nth_node(work, middle) as usize;
         if path_before(structure, place, work, count, y, x) {
             low = middle + 1;
         } else {
@@ -59,7 +59,7 @@ pub fn insert(work: &mut [u32], n: usize, at: usize, x: u32)
 {
     let mut i = n;
     while at < i {
-        let y = node_of(work, i - 1);
+        let y = nth_node(work, i - 1);
         put_node(work, i, y);
         i -= 1;
     }

@@ -60,8 +60,8 @@ fn property(name: &[u8], value: &[u8], seen: Seen) -> Turn
 }
 
 // One token's part.
-fn after_token(s: &[u8], strings: &[u8], kind: Kind, seen: Seen) -> Turn
-    ensures { λ r. ⌜ r ≡ onKind (now (s .entry)) (now (strings .entry)) seen kind ⌝ }
+fn after_token(structure: &[u8], strings: &[u8], kind: Kind, seen: Seen) -> Turn
+    ensures { λ r. ⌜ r ≡ onKind (now (structure .entry)) (now (strings .entry)) seen kind ⌝ }
 {
     match kind {
         Kind::Begin { len: _ } => Turn::Go(Seen::Within),
@@ -73,26 +73,26 @@ fn after_token(s: &[u8], strings: &[u8], kind: Kind, seen: Seen) -> Turn
             }
             property(
                 octets::string_at(strings, name),
-                octets::part(s, value, len),
+                octets::part(structure, value, len),
                 seen,
             )
         }
     }
 }
 
-// Judges refusal 11 in the structure block s with this strings block. Answers Nothing, or At the first property that isn't 4
+// Judges refusal 11 in the structure block with this strings block. Answers Nothing, or At the first property that isn't 4
 // bytes long under a name that is read as a word, or that gives a node another phandle than it has.
-pub fn cells(s: &[u8], strings: &[u8]) -> Found
-    ensures judged { λ r. ⌜ ((place : ℕ) → verdict 11 place r ≡ wordsJudged (nodesIn (now (s .entry)) (now (strings .entry)) place)) ⌝ }
-    ensures inside { λ r. ⌜ Inside (now (s .entry)) r ⌝ }
+pub fn cells(structure: &[u8], strings: &[u8]) -> Found
+    ensures judged { λ r. ⌜ ((place : ℕ) → verdict 11 place r ≡ wordsJudged (nodesIn (now (structure .entry)) (now (strings .entry)) place)) ⌝ }
+    ensures inside { λ r. ⌜ Inside (now (structure .entry)) r ⌝ }
 {
     let mut at = 0;
     let mut seen = Seen::Outside;
     loop {
-        let Token::Item { kind, next } = tokens::token_at(s, at) else {
+        let Token::Item { kind, next } = tokens::token_at(structure, at) else {
             return Found::Nothing;
         };
-        let Turn::Go(after) = after_token(s, strings, kind, seen) else {
+        let Turn::Go(after) = after_token(structure, strings, kind, seen) else {
             return Found::At(at);
         };
         seen = after;

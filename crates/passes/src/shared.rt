@@ -83,23 +83,23 @@ fn next_node(number: usize, wants: bool, limit: usize) -> usize
 
 // One token's part.
 fn row_turn(
-    s: &[u8],
+    structure: &[u8],
     strings: &[u8],
     work: &mut [u32],
     kind: Kind,
     number: usize,
     wants: bool,
 ) -> Row
-    requires { ⌜ number < length (now s) ⌝ }
-    ensures { λ r. ⌜ (r, now (work .exit)) ≡ rowTurn (now (s .entry)) (now (strings .entry)) kind wants number (now (work .entry)) ⌝ }
+    requires { ⌜ number < length (now structure) ⌝ }
+    ensures { λ r. ⌜ (r, now (work .exit)) ≡ rowTurn (now (structure .entry)) (now (strings .entry)) kind wants number (now (work .entry)) ⌝ }
 {
     match kind {
         Kind::Begin { len: _ } => Row::Go {
-            number: next_node(number, wants, s.len()),
+            number: next_node(number, wants, structure.len()),
             wants: true,
         },
         Kind::EndNode => Row::Go {
-            number: next_node(number, wants, s.len()),
+            number: next_node(number, wants, structure.len()),
             wants: false,
         },
         Kind::Nop => Row::Go { number, wants },
@@ -116,30 +116,30 @@ fn row_turn(
                     wants: true,
                 };
             }
-            let v = octets::word(octets::part(s, value, len), 0);
-            give(work, number, v, s.len())
+            let v = octets::word(octets::part(structure, value, len), 0);
+            give(work, number, v, structure.len())
         }
     }
 }
 
-// Judges refusal 12 in the structure block s with this strings block, and says in the row of each node in `work` whether it has
+// Judges refusal 12 in the structure block with this strings block, and says in the row of each node in `work` whether it has
 // a phandle, and which. Answers Nothing, or At the first phandle of the first node whose phandle an earlier node has; the rows
 // from that node on are then left as they were. Rows for which there is no room are not written and not found again.
-pub fn shared(s: &[u8], strings: &[u8], work: &mut [u32]) -> Found
-    ensures judged { λ r. ⌜ ((place : ℕ) → (verdict 12 place r, now (work .exit)) ≡ rowsFrom (now (work .entry)) 0 (nodesIn (now (s .entry)) (now (strings .entry)) place)) ⌝ }
-    ensures inside { λ r. ⌜ Inside (now (s .entry)) r ⌝ }
+pub fn shared(structure: &[u8], strings: &[u8], work: &mut [u32]) -> Found
+    ensures judged { λ r. ⌜ ((place : ℕ) → (verdict 12 place r, now (work .exit)) ≡ rowsFrom (now (work .entry)) 0 (nodesIn (now (structure .entry)) (now (strings .entry)) place)) ⌝ }
+    ensures inside { λ r. ⌜ Inside (now (structure .entry)) r ⌝ }
 {
     let mut at = 0;
     let mut number = 0;
     let mut wants = false;
     loop {
-        let Token::Item { kind, next } = tokens::token_at(s, at) else {
+        let Token::Item { kind, next } = tokens::token_at(structure, at) else {
             return Found::Nothing;
         };
         let Row::Go {
             number: n,
             wants: o,
-        } = row_turn(s, strings, work, kind, number, wants)
+        } = row_turn(structure, strings, work, kind, number, wants)
         else {
             return Found::At(at);
         };

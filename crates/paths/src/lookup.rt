@@ -1,7 +1,7 @@
 // The node with a given path. A path is matched from its end on, name by name, as the parents are climbed.
 use crate::nodes::name;
 use crate::nodes::up;
-use references::table::Found;
+use references::table::Node;
 ghost use mathlib.Core.Path.{_≡_};
 ghost use mathlib.Core.List.{_∷_};
 ghost use Prim.Native.Nat.{_≤_};
@@ -60,15 +60,15 @@ pub fn has_path(
 }
 
 // The node with this path: the first where several have it; Nothing where none has.
-pub fn node_at(structure: &[u8], place: usize, work: &[u32], count: usize, p: &[u8]) -> Found
+pub fn node_at(structure: &[u8], place: usize, work: &[u32], count: usize, p: &[u8]) -> Node
     ensures { λ r. ⌜ ((strings : Bytes) → found r ≡ nodeAt (frame (treeOf place (now (structure .entry)) strings (now (work .entry)) count)) (now (p .entry))) ⌝ }
 {
     let mut i = 0;
     while i < count {
         if has_path(structure, place, work, count, i, p) {
-            return Found::At(i);
+            return Node::At(i);
         }
         i += 1;
     }
-    Found::Nothing
+    Node::Nothing
 }

@@ -1,7 +1,7 @@
 // The scan of a reference property's value, one reference after the other.
 use crate::cells::cells_of;
 use crate::rows::Cells;
-use crate::table::Found;
+use crate::table::Node;
 use crate::table::begin_of;
 use crate::table::node_of;
 ghost use mathlib.Core.Path.{_≡_};
@@ -81,10 +81,10 @@ pub fn next_reference(
     let mut at = i;
     while at < n {
         match node_of(work, count, octets::word(value, 4 * at)) {
-            Found::At(m) => {
+            Node::At(m) => {
                 return refers(n, at, m, cells_at(structure, strings, place, work, m, c));
             }
-            Found::Nothing => {
+            Node::Nothing => {
                 at += 1;
             }
         }

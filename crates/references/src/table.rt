@@ -7,7 +7,7 @@ ghost use Rattle.rules.specs.Laws.Tabled.{cell, beginOf, lookIn};
 ghost use Rattle.references.specs.Table.{found};
 
 // The number of a node, if there is one.
-pub enum Found {
+pub enum Node {
     At(usize),
     Nothing,
 }
@@ -49,15 +49,15 @@ fn has(work: &[u32], i: usize, phandle: u32) -> bool
 }
 
 // The node that has this phandle, among the first `count` rows; Nothing where none has.
-pub fn node_of(work: &[u32], count: usize, phandle: u32) -> Found
+pub fn node_of(work: &[u32], count: usize, phandle: u32) -> Node
     ensures { λ r. ⌜ found r ≡ lookIn (now (work .entry)) count phandle ⌝ }
 {
     let mut i = 0;
     while i < count {
         if has(work, i, phandle) {
-            return Found::At(i);
+            return Node::At(i);
         }
         i += 1;
     }
-    Found::Nothing
+    Node::Nothing
 }

@@ -9,8 +9,8 @@ use denote.Enum.Declared.{tagOf}
 use Rattle.rules.proofs.Token as tokened
 use Rattle.rules.specs.Octets.{Bytes, part}
 use Rattle.rules.specs.Blob.{Block}
-use Rattle.rules.specs.Tokens.{tokenAt, Placed, following, tokensFrom}
-use Rattle.rules.specs.Events.{Property, Event, stringAt, eventsOf}
+use Rattle.rules.specs.Tokens.{tokenAt, following, tokensFrom}
+use Rattle.rules.specs.Events.{Property, stringAt}
 use Rattle.rules.specs.Tree.{propsOf}
 use Rattle.rules.specs.declared.Token.{Token}
 use Rattle.rules.specs.declared.Token.the-variants.{Item, End, Cut}

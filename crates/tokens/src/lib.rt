@@ -27,13 +27,13 @@ pub enum Property {
 }
 
 // BEGIN, whose name begins at b. A name without NUL has no room for one, and so is cut.
-fn begin_at(s: &[u8], b: usize) -> Token
-    requires { ⌜ b ≤ length (now s) ⌝ }
-    ensures { λ r. ⌜ r ≡ beginAt (now (s .entry)) b ⌝ }
+fn begin_at(structure: &[u8], b: usize) -> Token
+    requires { ⌜ b ≤ length (now structure) ⌝ }
+    ensures { λ r. ⌜ r ≡ beginAt (now (structure .entry)) b ⌝ }
 {
-    let len = octets::nul(s, b);
+    let len = octets::nul(structure, b);
     let next = b + (len + 1 + 3) / 4 * 4;
-    if next <= s.len() {
+    if next <= structure.len() {
         Token::Item {
             kind: Kind::Begin { len },
             next,
@@ -44,18 +44,18 @@ fn begin_at(s: &[u8], b: usize) -> Token
 }
 
 // PROP, whose length and name offset begin at b. The length is below 2^32, so that no sum wraps.
-fn prop_at(s: &[u8], b: usize) -> Token
-    requires { ⌜ b ≤ length (now s) ⌝ }
-    ensures { λ r. ⌜ r ≡ propAt (now (s .entry)) b ⌝ }
+fn prop_at(structure: &[u8], b: usize) -> Token
+    requires { ⌜ b ≤ length (now structure) ⌝ }
+    ensures { λ r. ⌜ r ≡ propAt (now (structure .entry)) b ⌝ }
 {
     let value = b + 8;
-    if s.len() < value {
+    if structure.len() < value {
         return Token::Cut;
     }
-    let len = octets::word(s, b) as usize;
-    let name = octets::word(s, b + 4) as usize;
+    let len = octets::word(structure, b) as usize;
+    let name = octets::word(structure, b + 4) as usize;
     let next = value + (len + 3) / 4 * 4;
-    if next <= s.len() {
+    if next <= structure.len() {
         Token::Item {
             kind: Kind::Prop { len, name, value },
             next,
@@ -67,24 +67,24 @@ fn prop_at(s: &[u8], b: usize) -> Token
 
 // The token at a place of a structure block: an item and where the next one begins; End; or Cut, where fewer than four bytes
 // are left, the tag is unknown, or the item does not end inside the block.
-pub fn token_at(s: &[u8], at: usize) -> Token
-    ensures { λ r. ⌜ r ≡ tokenAt (now (s .entry)) at ⌝ }
+pub fn token_at(structure: &[u8], at: usize) -> Token
+    ensures { λ r. ⌜ r ≡ tokenAt (now (structure .entry)) at ⌝ }
 {
-    if s.len() < 4 {
+    if structure.len() < 4 {
         return Token::Cut;
     }
-    if s.len() - 4 < at {
+    if structure.len() - 4 < at {
         return Token::Cut;
     }
-    let tag = octets::word(s, at);
+    let tag = octets::word(structure, at);
     let b = at + 4;
     match tag {
-        FDT_BEGIN_NODE => begin_at(s, b),
+        FDT_BEGIN_NODE => begin_at(structure, b),
         FDT_END_NODE => Token::Item {
             kind: Kind::EndNode,
             next: b,
         },
-        FDT_PROP => prop_at(s, b),
+        FDT_PROP => prop_at(structure, b),
         FDT_NOP => Token::Item {
             kind: Kind::Nop,
             next: b,
@@ -95,22 +95,22 @@ pub fn token_at(s: &[u8], at: usize) -> Token
 }
 
 // Where what follows the item at a place begins; the block's length where no item stands there.
-pub fn behind(s: &[u8], at: usize) -> usize
-    ensures { λ r. ⌜ r ≡ behindAt (now (s .entry)) at ⌝ }
+pub fn behind(structure: &[u8], at: usize) -> usize
+    ensures { λ r. ⌜ r ≡ behindAt (now (structure .entry)) at ⌝ }
 {
-    let Token::Item { kind: _, next } = token_at(s, at) else {
-        return s.len();
+    let Token::Item { kind: _, next } = token_at(structure, at) else {
+        return structure.len();
     };
     next
 }
 
 // The property that stands at a place or behind NOPs there: Here, or Missing where another token comes first.
-pub fn property_at(s: &[u8], from: usize) -> Property
-    ensures { λ r. ⌜ r ≡ propertyAt (now (s .entry)) from ⌝ }
+pub fn property_at(structure: &[u8], from: usize) -> Property
+    ensures { λ r. ⌜ r ≡ propertyAt (now (structure .entry)) from ⌝ }
 {
     let mut at = from;
     loop {
-        let Token::Item { kind, next } = token_at(s, at) else {
+        let Token::Item { kind, next } = token_at(structure, at) else {
             return Property::Missing;
         };
         match kind {

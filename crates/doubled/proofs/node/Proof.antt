@@ -29,8 +29,8 @@ same-length c = search needs
 
 returns : tie.Need-returns
 returns c =
-    let q = sym (c .before .sibling-below .ensures ∙ ap₂ (siblingBelow (now (c .before .before .before .before .before .before .before .before .args .s)) (c .before .before .before .before .before .before .before .before .args .place) (now (c .before .before .before .before .before .before .before .before .args .work)) (c .before .before .before .before .before .before .before .before .args .i)) (c .before .before .row-parent .ensures) (c .before .before .before .before .part .ensures)) ∙ c .if1 .taken in
-    (λ h p. sym (ap (λ (x : Bool). first (record { fails = x; number = 10; place = p + c .before .before .before .before .before .before .before .before .args .at } ∷ []) then doubledProps [] (propsAt (now (c .before .before .before .before .before .before .before .before .args .s)) (now (c .before .before .before .before .before .before .before .before .args .strings)) p (c .before .before .before .before .before .before .before .before .args .next))) q), (c .before .before .before .before .before .before .before .before .pre .0, λ c. refl))
+    let q = sym (c .before .sibling-below .ensures ∙ ap₂ (siblingBelow (now (c .before .before .before .before .before .before .before .before .args .structure)) (c .before .before .before .before .before .before .before .before .args .place) (now (c .before .before .before .before .before .before .before .before .args .work)) (c .before .before .before .before .before .before .before .before .args .i)) (c .before .before .row-parent .ensures) (c .before .before .before .before .part .ensures)) ∙ c .if1 .taken in
+    (λ h p. sym (ap (λ (x : Bool). first (record { fails = x; number = 10; place = p + c .before .before .before .before .before .before .before .before .args .at } ∷ []) then doubledProps [] (propsAt (now (c .before .before .before .before .before .before .before .before .args .structure)) (now (c .before .before .before .before .before .before .before .before .args .strings)) p (c .before .before .before .before .before .before .before .before .args .next))) q), (c .before .before .before .before .before .before .before .before .pre .0, λ c. refl))
 
 doubled-props-requires : tie.Need-doubled-props-requires
 doubled-props-requires c κs = c .before .before .before .before .before .before .before .before .before .pre .1
@@ -40,8 +40,8 @@ same-length-2 c = search needs
 
 returns-2 : tie.Need-returns-2
 returns-2 c =
-    let q = sym (c .before .before .before .before .before .sibling-below .ensures ∙ ap₂ (siblingBelow (now (c .before .before .before .before .before .before .before .before .before .before .before .before .args .s)) (c .before .before .before .before .before .before .before .before .before .before .before .before .args .place) (now (c .before .before .before .before .before .before .before .before .before .before .before .before .args .work)) (c .before .before .before .before .before .before .before .before .before .before .before .before .args .i)) (c .before .before .before .before .before .before .row-parent .ensures) (c .before .before .before .before .before .before .before .before .part .ensures)) ∙ c .before .before .before .before .if1 .left in
-    (λ h p. c .before .before .doubled-props .ensures .0 h p ∙ sym (ap (λ (x : Bool). first (record { fails = x; number = 10; place = p + c .before .before .before .before .before .before .before .before .before .before .before .before .args .at } ∷ []) then doubledProps [] (propsAt (now (c .before .before .before .before .before .before .before .before .before .before .before .before .args .s)) (now (c .before .before .before .before .before .before .before .before .before .before .before .before .args .strings)) p (c .before .before .before .before .before .before .before .before .before .before .before .before .args .next))) q), (c .before .before .doubled-props .ensures .1 .0, c .before .before .doubled-props .ensures .1 .1))
+    let q = sym (c .before .before .before .before .before .sibling-below .ensures ∙ ap₂ (siblingBelow (now (c .before .before .before .before .before .before .before .before .before .before .before .before .args .structure)) (c .before .before .before .before .before .before .before .before .before .before .before .before .args .place) (now (c .before .before .before .before .before .before .before .before .before .before .before .before .args .work)) (c .before .before .before .before .before .before .before .before .before .before .before .before .args .i)) (c .before .before .before .before .before .before .row-parent .ensures) (c .before .before .before .before .before .before .before .before .part .ensures)) ∙ c .before .before .before .before .if1 .left in
+    (λ h p. c .before .before .doubled-props .ensures .0 h p ∙ sym (ap (λ (x : Bool). first (record { fails = x; number = 10; place = p + c .before .before .before .before .before .before .before .before .before .before .before .before .args .at } ∷ []) then doubledProps [] (propsAt (now (c .before .before .before .before .before .before .before .before .before .before .before .before .args .structure)) (now (c .before .before .before .before .before .before .before .before .before .before .before .before .args .strings)) p (c .before .before .before .before .before .before .before .before .before .before .before .before .args .next))) q), (c .before .before .doubled-props .ensures .1 .0, c .before .before .doubled-props .ensures .1 .1))
 
 pub node-spec : {M : Type 1} → statement M
 node-spec = tie.close (tie.spec add-part part-requires row-parent-requires sibling-below-requires same-length returns doubled-props-requires same-length-2 returns-2)

@@ -60,7 +60,7 @@ unfolding rowNamed nodeWords
 returns-4 c =
     let n : ℕ = getD (now (c .before .before .before .before .before .before .before .before .before .before .args .work)) (NODE-WORDS * c .before .before .before .before .before .before .before .before .before .before .args .j) 0 - c .before .before .before .before .before .before .before .before .before .before .args .place + 4 in
     simp (lt-ltb _ _ (c .before .before .before .before .before .before .if1 .left), eq-eqb _ _ (c .before .before .before .before .if2 .left), le-leb _ _ (c .before .before .if3 .left))
-    (c .named-at .ensures ∙ ap (namedAt (now (c .before .before .before .before .before .before .before .before .before .before .args .name))) (c .before .part .ensures ∙ take-all (length (now (c .before .before .before .before .before .before .before .before .before .before .args .s))) (drop n (now (c .before .before .before .before .before .before .before .before .before .before .args .s))) (omega (arith, length-drop n (now (c .before .before .before .before .before .before .before .before .before .before .args .s))))))
+    (c .named-at .ensures ∙ ap (namedAt (now (c .before .before .before .before .before .before .before .before .before .before .args .name))) (c .before .part .ensures ∙ take-all (length (now (c .before .before .before .before .before .before .before .before .before .before .args .structure))) (drop n (now (c .before .before .before .before .before .before .before .before .before .before .args .structure))) (omega (arith, length-drop n (now (c .before .before .before .before .before .before .before .before .before .before .args .structure))))))
 
 pub row-named-spec : {M : Type 1} → statement M
 row-named-spec = tie.close (tie.spec returns mul-at add-if2 mul-if2 shared-slice-read-if2 returns-2 mul-begin shared-slice-read-begin cast-begin returns-3 add-part part-requires named-at-requires returns-4)

@@ -13,16 +13,16 @@ nul-requires : tie.Need-nul-requires
 nul-requires c κs = search needs
 
 add-next : tie.Need-add-next
-add-next c = omega (arith, c .nul .ensures, nul-le (drop (c .before .before .args .b) (now (c .before .before .args .s))), length-drop (c .before .before .args .b) (now (c .before .before .args .s)))
+add-next c = omega (arith, c .nul .ensures, nul-le (drop (c .before .before .args .b) (now (c .before .before .args .structure))), length-drop (c .before .before .args .b) (now (c .before .before .args .structure)))
 
 add-next-2 : tie.Need-add-next-2
-add-next-2 c = omega (arith, c .nul .ensures, nul-le (drop (c .before .before .args .b) (now (c .before .before .args .s))), length-drop (c .before .before .args .b) (now (c .before .before .args .s)))
+add-next-2 c = omega (arith, c .nul .ensures, nul-le (drop (c .before .before .args .b) (now (c .before .before .args .structure))), length-drop (c .before .before .args .b) (now (c .before .before .args .structure)))
 
 mul-next : tie.Need-mul-next
-mul-next c = omega (arith, c .nul .ensures, nul-le (drop (c .before .before .args .b) (now (c .before .before .args .s))), length-drop (c .before .before .args .b) (now (c .before .before .args .s)))
+mul-next c = omega (arith, c .nul .ensures, nul-le (drop (c .before .before .args .b) (now (c .before .before .args .structure))), length-drop (c .before .before .args .b) (now (c .before .before .args .structure)))
 
 add-next-3 : tie.Need-add-next-3
-add-next-3 c = omega (arith, c .nul .ensures, nul-le (drop (c .before .before .args .b) (now (c .before .before .args .s))), length-drop (c .before .before .args .b) (now (c .before .before .args .s)))
+add-next-3 c = omega (arith, c .nul .ensures, nul-le (drop (c .before .before .args .b) (now (c .before .before .args .structure))), length-drop (c .before .before .args .b) (now (c .before .before .args .structure)))
 
 returns : tie.Need-returns
 unfolding beginAt

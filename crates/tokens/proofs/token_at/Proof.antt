@@ -11,14 +11,14 @@ use Rattle.tokens.proofs.token_at.Tie as tie
 
 returns : tie.Need-returns
 unfolding tokenAt
-returns c = simp (lt-leb (c .before .before .args .at + 4) (length (now (c .before .before .args .s))) (omega arith))
+returns c = simp (lt-leb (c .before .before .args .at + 4) (length (now (c .before .before .args .structure))) (omega arith))
 
 sub-if2 : tie.Need-sub-if2
 sub-if2 c = search needs
 
 returns-2 : tie.Need-returns-2
 unfolding tokenAt
-returns-2 c = simp (lt-leb (c .before .before .before .args .at + 4) (length (now (c .before .before .before .args .s))) (omega arith))
+returns-2 c = simp (lt-leb (c .before .before .before .args .at + 4) (length (now (c .before .before .before .args .structure))) (omega arith))
 
 word-requires : tie.Need-word-requires
 word-requires c κs = search needs
@@ -34,29 +34,29 @@ prop-at-requires c κs = search needs
 
 returns-3 : tie.Need-returns-3
 unfolding tokenAt tagged
-returns-3 c = simp (le-leb (c .before .before .before .before .before .before .args .at + 4) (length (now (c .before .before .before .before .before .before .args .s))) (omega arith), ← c .before .before .word .ensures, c .before .match .keys1) (c .begin-at .ensures)
+returns-3 c = simp (le-leb (c .before .before .before .before .before .before .args .at + 4) (length (now (c .before .before .before .before .before .before .args .structure))) (omega arith), ← c .before .before .word .ensures, c .before .match .keys1) (c .begin-at .ensures)
 
 returns-4 : tie.Need-returns-4
 unfolding tokenAt tagged
-returns-4 c = simp (le-leb (c .before .before .before .before .before .args .at + 4) (length (now (c .before .before .before .before .before .args .s))) (omega arith), ← c .before .word .ensures, c .match .keys2)
+returns-4 c = simp (le-leb (c .before .before .before .before .before .args .at + 4) (length (now (c .before .before .before .before .before .args .structure))) (omega arith), ← c .before .word .ensures, c .match .keys2)
 
 returns-5 : tie.Need-returns-5
 unfolding tokenAt tagged
-returns-5 c = simp (le-leb (c .before .before .before .before .before .before .args .at + 4) (length (now (c .before .before .before .before .before .before .args .s))) (omega arith), ← c .before .before .word .ensures, c .before .match .keys3) (c .prop-at .ensures)
+returns-5 c = simp (le-leb (c .before .before .before .before .before .before .args .at + 4) (length (now (c .before .before .before .before .before .before .args .structure))) (omega arith), ← c .before .before .word .ensures, c .before .match .keys3) (c .prop-at .ensures)
 
 returns-6 : tie.Need-returns-6
 unfolding tokenAt tagged
-returns-6 c = simp (le-leb (c .before .before .before .before .before .args .at + 4) (length (now (c .before .before .before .before .before .args .s))) (omega arith), ← c .before .word .ensures, c .match .keys4)
+returns-6 c = simp (le-leb (c .before .before .before .before .before .args .at + 4) (length (now (c .before .before .before .before .before .args .structure))) (omega arith), ← c .before .word .ensures, c .match .keys4)
 
 returns-7 : tie.Need-returns-7
 unfolding tokenAt tagged
-returns-7 c = simp (le-leb (c .before .before .before .before .before .args .at + 4) (length (now (c .before .before .before .before .before .args .s))) (omega arith), ← c .before .word .ensures, c .match .keys5)
+returns-7 c = simp (le-leb (c .before .before .before .before .before .args .at + 4) (length (now (c .before .before .before .before .before .args .structure))) (omega arith), ← c .before .word .ensures, c .match .keys5)
 
 returns-8 : tie.Need-returns-8
 unfolding tokenAt tagged
 returns-8 c =
     simp (
-      le-leb (c .before .before .before .before .before .args .at + 4) (length (now (c .before .before .before .before .before .args .s))) (omega arith),
+      le-leb (c .before .before .before .before .before .args .at + 4) (length (now (c .before .before .before .before .before .args .structure))) (omega arith),
       ← c .before .word .ensures,
       ne-eqb _ _ (c .match .rest .0 .0 .0 .0 .1),
       ne-eqb _ _ (c .match .rest .0 .0 .0 .1),

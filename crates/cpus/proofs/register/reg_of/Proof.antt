@@ -4,7 +4,7 @@ use Prim.Native.Nat.{ℕ, _-_, _≤_}
 use native.Mathlib.Omega.{arith}
 use lib.ListN.{length}
 use denote.Ref.{now}
-use Rattle.rules.specs.Octets.{Bytes, ascii, same}
+use Rattle.rules.specs.Octets.{ascii, same}
 use Rattle.rules.specs.Blob.{blockOf}
 use Rattle.rules.specs.Laws.Tabled.{propsAt}
 use Rattle.tokens.proofs.Properties.{behind-inside, here-ahead}

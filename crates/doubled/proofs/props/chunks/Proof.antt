@@ -23,7 +23,7 @@ abbrev μ-loop : tie.MeasureT-loop
 μ-loop s strings work₀ from all left₀ here₀ found₀ work left here found = left
 
 loop-holds : tie.Need-loop-holds Inv-loop μ-loop
-loop-holds c = (omega arith, c .before .before .before .pre .0, tt, refl, framed-same (now (c .before .before .before .args .work)) (taken (c .before .before .before .args .all)), λ p. left-all (propsAt (now (c .before .before .before .args .s)) (now (c .before .before .before .args .strings)) p (c .before .before .before .args .from)) (c .before .before .before .args .all) (c .before .before .before .pre .2 p))
+loop-holds c = (omega arith, c .before .before .before .pre .0, tt, refl, framed-same (now (c .before .before .before .args .work)) (taken (c .before .before .before .args .all)), λ p. left-all (propsAt (now (c .before .before .before .args .structure)) (now (c .before .before .before .args .strings)) p (c .before .before .before .args .from)) (c .before .before .before .args .all) (c .before .before .before .pre .2 p))
 
 build-requires : tie.Need-build-requires Inv-loop μ-loop
 build-requires c κs = (c .before .before .loop .inv .1, omega (arith, c .before .before .before .before .before .before .pre .1, c .before .before .loop .inv .3))
@@ -36,7 +36,7 @@ same-length c = search needs
 
 returns : tie.Need-returns Inv-loop μ-loop
 returns c =
-    let t = builds-twice (now (c .before .before .before .before .before .before .before .before .before .before .before .before .args .s)) (now (c .before .before .before .before .before .before .before .before .before .before .before .before .args .strings)) (c .before .before .before .before .before .before .before .before .loop .here) (c .before .before .before .before .before .before .before .before .loop .left) (c .before .before .before .before .before .build .last .1 .1 .0) (c .before .before .before .before .before .build .result) (c .before .before .before .before .before .build .ensures .0) (c .before .at .given .0 .0) (c .before .at .given .1) in
+    let t = builds-twice (now (c .before .before .before .before .before .before .before .before .before .before .before .before .args .structure)) (now (c .before .before .before .before .before .before .before .before .before .before .before .before .args .strings)) (c .before .before .before .before .before .before .before .before .loop .here) (c .before .before .before .before .before .before .before .before .loop .left) (c .before .before .before .before .before .build .last .1 .1 .0) (c .before .before .before .before .before .build .result) (c .before .before .before .before .before .build .ensures .0) (c .before .at .given .0 .0) (c .before .at .given .1) in
     (λ p. sym (ap (λ (v : Verdict). v then verdict 10 p (c .before .before .before .before .before .before .before .before .loop .found)) (t .judged p)) ∙ c .before .before .before .before .before .before .before .before .loop .inv .5 p, (t .inside, framed-then (now (c .before .before .before .before .before .before .before .before .before .before .before .before .args .work)) (c .before .before .before .before .before .before .before .before .loop .work) (c .before .before .before .before .before .build .last .1 .1 .0) (taken (c .before .before .before .before .before .before .before .before .loop .left)) (taken (c .before .before .before .before .before .before .before .before .before .before .before .before .args .all)) (omega (arith, c .before .before .before .before .before .before .before .before .loop .inv .0)) (c .before .before .before .before .before .before .before .before .loop .inv .4) (c .before .before .before .before .before .build .ensures .1)))
 
 enum-told : tie.Need-enum-told Inv-loop μ-loop
@@ -47,55 +47,55 @@ same-length-2 c = search needs
 
 returns-2 : tie.Need-returns-2 Inv-loop μ-loop
 returns-2 c =
-    let t = builds-done (now (c .before .before .before .before .before .before .before .before .before .before .before .args .s)) (now (c .before .before .before .before .before .before .before .before .before .before .before .args .strings)) (c .before .before .before .before .before .before .before .loop .here) (c .before .before .before .before .before .before .before .loop .left) (c .before .before .before .before .build .last .1 .1 .0) (c .before .before .before .before .build .result) (c .before .before .before .before .build .ensures .0) (c .enum-told .given .1) in
+    let t = builds-done (now (c .before .before .before .before .before .before .before .before .before .before .before .args .structure)) (now (c .before .before .before .before .before .before .before .before .before .before .before .args .strings)) (c .before .before .before .before .before .before .before .loop .here) (c .before .before .before .before .before .before .before .loop .left) (c .before .before .before .before .build .last .1 .1 .0) (c .before .before .before .before .build .result) (c .before .before .before .before .build .ensures .0) (c .enum-told .given .1) in
     (λ p. sym (ap (λ (v : Verdict). v then verdict 10 p (c .before .before .before .before .before .before .before .loop .found)) (t p)) ∙ c .before .before .before .before .before .before .before .loop .inv .5 p, (c .before .before .before .before .before .before .before .loop .inv .2, framed-then (now (c .before .before .before .before .before .before .before .before .before .before .before .args .work)) (c .before .before .before .before .before .before .before .loop .work) (c .before .before .before .before .build .last .1 .1 .0) (taken (c .before .before .before .before .before .before .before .loop .left)) (taken (c .before .before .before .before .before .before .before .before .before .before .before .args .all)) (omega (arith, c .before .before .before .before .before .before .before .loop .inv .0)) (c .before .before .before .before .before .before .before .loop .inv .4) (c .before .before .before .before .build .ensures .1)))
 
 enum-known-next : tie.Need-enum-known-next Inv-loop μ-loop
 enum-known-next c = search needs
 
 sub-left : tie.Need-sub-left Inv-loop μ-loop
-sub-left c = let u = builds-full (now (c .before .before .before .before .before .before .before .before .before .before .before .before .args .s)) (now (c .before .before .before .before .before .before .before .before .before .before .before .before .args .strings)) (c .before .before .before .before .before .before .before .before .loop .here) (c .before .before .before .before .before .before .before .before .loop .left) (c .before .before .before .before .before .build .last .1 .1 .0) (c .before .before .before .before .before .build .result) (c .before .before .before .before .before .build .ensures .0) (c .before .next .given .0 .0) (c .before .next .given .1) in omega (arith, u .few)
+sub-left c = let u = builds-full (now (c .before .before .before .before .before .before .before .before .before .before .before .before .args .structure)) (now (c .before .before .before .before .before .before .before .before .before .before .before .before .args .strings)) (c .before .before .before .before .before .before .before .before .loop .here) (c .before .before .before .before .before .before .before .before .loop .left) (c .before .before .before .before .before .build .last .1 .1 .0) (c .before .before .before .before .before .build .result) (c .before .before .before .before .before .build .ensures .0) (c .before .next .given .0 .0) (c .before .next .given .1) in omega (arith, u .few)
 
 lookup-requires : tie.Need-lookup-requires Inv-loop μ-loop
-lookup-requires c κs = let u = builds-full (now (c .before .before .before .before .before .before .before .before .before .before .before .before .before .args .s)) (now (c .before .before .before .before .before .before .before .before .before .before .before .before .before .args .strings)) (c .before .before .before .before .before .before .before .before .before .loop .here) (c .before .before .before .before .before .before .before .before .before .loop .left) (c .before .before .before .before .before .before .build .last .1 .1 .0) (c .before .before .before .before .before .before .build .result) (c .before .before .before .before .before .before .build .ensures .0) (c .before .before .next .given .0 .0) (c .before .before .next .given .1) in (u .within, omega (arith, c .before .before .before .before .before .before .before .before .before .before .before .before .before .pre .1, c .before .before .before .before .before .before .before .before .before .loop .inv .3, c .before .before .before .before .before .before .build .kept .1 .1 .0), u .ordered)
+lookup-requires c κs = let u = builds-full (now (c .before .before .before .before .before .before .before .before .before .before .before .before .before .args .structure)) (now (c .before .before .before .before .before .before .before .before .before .before .before .before .before .args .strings)) (c .before .before .before .before .before .before .before .before .before .loop .here) (c .before .before .before .before .before .before .before .before .before .loop .left) (c .before .before .before .before .before .before .build .last .1 .1 .0) (c .before .before .before .before .before .before .build .result) (c .before .before .before .before .before .before .build .ensures .0) (c .before .before .next .given .0 .0) (c .before .before .next .given .1) in (u .within, omega (arith, c .before .before .before .before .before .before .before .before .before .before .before .before .before .pre .1, c .before .before .before .before .before .before .before .before .before .loop .inv .3, c .before .before .before .before .before .before .build .kept .1 .1 .0), u .ordered)
 
 enum-known-index : tie.Need-enum-known-index Inv-loop μ-loop
 enum-known-index c = search needs
 
 loop-less : tie.Need-loop-less Inv-loop μ-loop
 loop-less c =
-    let u = builds-full (now (c .before .before .before .before .before .before .before .before .before .before .before .before .before .before .before .before .before .args .s)) (now (c .before .before .before .before .before .before .before .before .before .before .before .before .before .before .before .before .before .args .strings)) (c .before .before .before .before .before .before .before .before .before .before .before .before .before .loop .here) (c .before .before .before .before .before .before .before .before .before .before .before .before .before .loop .left) (c .before .before .before .before .before .before .before .before .before .before .build .last .1 .1 .0) (c .before .before .before .before .before .before .before .before .before .before .build .result) (c .before .before .before .before .before .before .before .before .before .before .build .ensures .0) (c .before .before .before .before .before .before .next .given .0 .0) (c .before .before .before .before .before .before .next .given .1) in
-    let m = meets-here (keyBelow (now (c .before .before .before .before .before .before .before .before .before .before .before .before .before .before .before .before .before .args .strings)) (c .before .before .before .before .before .before .before .before .before .before .build .last .1 .1 .0) chunkRoom) (now (c .before .before .before .before .before .before .before .before .before .before .before .before .before .before .before .before .before .args .s)) (now (c .before .before .before .before .before .before .before .before .before .before .before .before .before .before .before .before .before .args .strings)) (c .before .before .before .before .before .before .next .given .0 .0) (c .before .before .before .before .before .before .before .before .before .before .before .before .before .loop .left - chunkRoom) (c .before .index .given .0 .0) (c .before .index .given .0 .1 .0) (c .before .before .before .lookup .result) (c .before .index .given .1) (c .before .before .before .lookup .ensures) in
+    let u = builds-full (now (c .before .before .before .before .before .before .before .before .before .before .before .before .before .before .before .before .before .args .structure)) (now (c .before .before .before .before .before .before .before .before .before .before .before .before .before .before .before .before .before .args .strings)) (c .before .before .before .before .before .before .before .before .before .before .before .before .before .loop .here) (c .before .before .before .before .before .before .before .before .before .before .before .before .before .loop .left) (c .before .before .before .before .before .before .before .before .before .before .build .last .1 .1 .0) (c .before .before .before .before .before .before .before .before .before .before .build .result) (c .before .before .before .before .before .before .before .before .before .before .build .ensures .0) (c .before .before .before .before .before .before .next .given .0 .0) (c .before .before .before .before .before .before .next .given .1) in
+    let m = meets-here (keyBelow (now (c .before .before .before .before .before .before .before .before .before .before .before .before .before .before .before .before .before .args .strings)) (c .before .before .before .before .before .before .before .before .before .before .build .last .1 .1 .0) chunkRoom) (now (c .before .before .before .before .before .before .before .before .before .before .before .before .before .before .before .before .before .args .structure)) (now (c .before .before .before .before .before .before .before .before .before .before .before .before .before .before .before .before .before .args .strings)) (c .before .before .before .before .before .before .next .given .0 .0) (c .before .before .before .before .before .before .before .before .before .before .before .before .before .loop .left - chunkRoom) (c .before .index .given .0 .0) (c .before .index .given .0 .1 .0) (c .before .before .before .lookup .result) (c .before .index .given .1) (c .before .before .before .lookup .ensures) in
     omega (arith, u .few, m .few)
 
 loop-again : tie.Need-loop-again Inv-loop μ-loop
 loop-again c =
-    let u = builds-full (now (c .before .before .before .before .before .before .before .before .before .before .before .before .before .before .before .before .before .args .s)) (now (c .before .before .before .before .before .before .before .before .before .before .before .before .before .before .before .before .before .args .strings)) (c .before .before .before .before .before .before .before .before .before .before .before .before .before .loop .here) (c .before .before .before .before .before .before .before .before .before .before .before .before .before .loop .left) (c .before .before .before .before .before .before .before .before .before .before .build .last .1 .1 .0) (c .before .before .before .before .before .before .before .before .before .before .build .result) (c .before .before .before .before .before .before .before .before .before .before .build .ensures .0) (c .before .before .before .before .before .before .next .given .0 .0) (c .before .before .before .before .before .before .next .given .1) in
-    let m = meets-here (keyBelow (now (c .before .before .before .before .before .before .before .before .before .before .before .before .before .before .before .before .before .args .strings)) (c .before .before .before .before .before .before .before .before .before .before .build .last .1 .1 .0) chunkRoom) (now (c .before .before .before .before .before .before .before .before .before .before .before .before .before .before .before .before .before .args .s)) (now (c .before .before .before .before .before .before .before .before .before .before .before .before .before .before .before .before .before .args .strings)) (c .before .before .before .before .before .before .next .given .0 .0) (c .before .before .before .before .before .before .before .before .before .before .before .before .before .loop .left - chunkRoom) (c .before .index .given .0 .0) (c .before .index .given .0 .1 .0) (c .before .before .before .lookup .result) (c .before .index .given .1) (c .before .before .before .lookup .ensures) in (
+    let u = builds-full (now (c .before .before .before .before .before .before .before .before .before .before .before .before .before .before .before .before .before .args .structure)) (now (c .before .before .before .before .before .before .before .before .before .before .before .before .before .before .before .before .before .args .strings)) (c .before .before .before .before .before .before .before .before .before .before .before .before .before .loop .here) (c .before .before .before .before .before .before .before .before .before .before .before .before .before .loop .left) (c .before .before .before .before .before .before .before .before .before .before .build .last .1 .1 .0) (c .before .before .before .before .before .before .before .before .before .before .build .result) (c .before .before .before .before .before .before .before .before .before .before .build .ensures .0) (c .before .before .before .before .before .before .next .given .0 .0) (c .before .before .before .before .before .before .next .given .1) in
+    let m = meets-here (keyBelow (now (c .before .before .before .before .before .before .before .before .before .before .before .before .before .before .before .before .before .args .strings)) (c .before .before .before .before .before .before .before .before .before .before .build .last .1 .1 .0) chunkRoom) (now (c .before .before .before .before .before .before .before .before .before .before .before .before .before .before .before .before .before .args .structure)) (now (c .before .before .before .before .before .before .before .before .before .before .before .before .before .before .before .before .before .args .strings)) (c .before .before .before .before .before .before .next .given .0 .0) (c .before .before .before .before .before .before .before .before .before .before .before .before .before .loop .left - chunkRoom) (c .before .index .given .0 .0) (c .before .index .given .0 .1 .0) (c .before .before .before .lookup .result) (c .before .index .given .1) (c .before .before .before .lookup .ensures) in (
       omega (arith, u .few, m .few, c .before .before .before .before .before .before .before .before .before .before .before .before .before .loop .inv .0),
       u .within,
       m .inside,
       c .before .before .before .before .before .before .before .before .before .before .build .kept .1 .1 .0 ∙ c .before .before .before .before .before .before .before .before .before .before .before .before .before .loop .inv .3,
       framed-then (now (c .before .before .before .before .before .before .before .before .before .before .before .before .before .before .before .before .before .args .work)) (c .before .before .before .before .before .before .before .before .before .before .before .before .before .loop .work) (c .before .before .before .before .before .before .before .before .before .before .build .last .1 .1 .0) (taken (c .before .before .before .before .before .before .before .before .before .before .before .before .before .loop .left)) (taken (c .before .before .before .before .before .before .before .before .before .before .before .before .before .before .before .before .before .args .all)) (omega (arith, c .before .before .before .before .before .before .before .before .before .before .before .before .before .loop .inv .0)) (c .before .before .before .before .before .before .before .before .before .before .before .before .before .loop .inv .4) (c .before .before .before .before .before .before .before .before .before .before .build .ensures .1),
-      λ p. sym (left-hit (keyBelow (now (c .before .before .before .before .before .before .before .before .before .before .before .before .before .before .before .before .before .args .strings)) (c .before .before .before .before .before .before .before .before .before .before .build .last .1 .1 .0) chunkRoom) (u .seen p) (propsAt (now (c .before .before .before .before .before .before .before .before .before .before .before .before .before .before .before .before .before .args .s)) (now (c .before .before .before .before .before .before .before .before .before .before .before .before .before .before .before .before .before .args .strings)) p (c .before .before .before .before .before .before .next .given .0 .0)) (c .before .before .before .before .before .before .before .before .before .before .before .before .before .loop .left - chunkRoom) (verdict 10 p (c .before .before .before .before .before .before .before .before .before .before .before .before .before .loop .found)) (doubledProps [] (take (c .before .before .before .before .before .before .before .before .before .before .before .before .before .loop .left) (propsAt (now (c .before .before .before .before .before .before .before .before .before .before .before .before .before .before .before .before .before .args .s)) (now (c .before .before .before .before .before .before .before .before .before .before .before .before .before .before .before .before .before .args .strings)) p (c .before .before .before .before .before .before .before .before .before .before .before .before .before .loop .here)))) (u .holds p) (u .judged p) (c .before .index .given .0 .0) (p + c .before .index .given .0 .1 .0) (m .fault p) (m .rest p)) ∙ c .before .before .before .before .before .before .before .before .before .before .before .before .before .loop .inv .5 p,
+      λ p. sym (left-hit (keyBelow (now (c .before .before .before .before .before .before .before .before .before .before .before .before .before .before .before .before .before .args .strings)) (c .before .before .before .before .before .before .before .before .before .before .build .last .1 .1 .0) chunkRoom) (u .seen p) (propsAt (now (c .before .before .before .before .before .before .before .before .before .before .before .before .before .before .before .before .before .args .structure)) (now (c .before .before .before .before .before .before .before .before .before .before .before .before .before .before .before .before .before .args .strings)) p (c .before .before .before .before .before .before .next .given .0 .0)) (c .before .before .before .before .before .before .before .before .before .before .before .before .before .loop .left - chunkRoom) (verdict 10 p (c .before .before .before .before .before .before .before .before .before .before .before .before .before .loop .found)) (doubledProps [] (take (c .before .before .before .before .before .before .before .before .before .before .before .before .before .loop .left) (propsAt (now (c .before .before .before .before .before .before .before .before .before .before .before .before .before .before .before .before .before .args .structure)) (now (c .before .before .before .before .before .before .before .before .before .before .before .before .before .before .before .before .before .args .strings)) p (c .before .before .before .before .before .before .before .before .before .before .before .before .before .loop .here)))) (u .holds p) (u .judged p) (c .before .index .given .0 .0) (p + c .before .index .given .0 .1 .0) (m .fault p) (m .rest p)) ∙ c .before .before .before .before .before .before .before .before .before .before .before .before .before .loop .inv .5 p,
     )
 
 enum-told-2 : tie.Need-enum-told-2 Inv-loop μ-loop
 enum-told-2 c = search needs
 
 loop-less-2 : tie.Need-loop-less-2 Inv-loop μ-loop
-loop-less-2 c = let u = builds-full (now (c .before .before .before .before .before .before .before .before .before .before .before .before .before .before .before .before .args .s)) (now (c .before .before .before .before .before .before .before .before .before .before .before .before .before .before .before .before .args .strings)) (c .before .before .before .before .before .before .before .before .before .before .before .before .loop .here) (c .before .before .before .before .before .before .before .before .before .before .before .before .loop .left) (c .before .before .before .before .before .before .before .before .before .build .last .1 .1 .0) (c .before .before .before .before .before .before .before .before .before .build .result) (c .before .before .before .before .before .before .before .before .before .build .ensures .0) (c .before .before .before .before .before .next .given .0 .0) (c .before .before .before .before .before .next .given .1) in omega (arith, u .few)
+loop-less-2 c = let u = builds-full (now (c .before .before .before .before .before .before .before .before .before .before .before .before .before .before .before .before .args .structure)) (now (c .before .before .before .before .before .before .before .before .before .before .before .before .before .before .before .before .args .strings)) (c .before .before .before .before .before .before .before .before .before .before .before .before .loop .here) (c .before .before .before .before .before .before .before .before .before .before .before .before .loop .left) (c .before .before .before .before .before .before .before .before .before .build .last .1 .1 .0) (c .before .before .before .before .before .before .before .before .before .build .result) (c .before .before .before .before .before .before .before .before .before .build .ensures .0) (c .before .before .before .before .before .next .given .0 .0) (c .before .before .before .before .before .next .given .1) in omega (arith, u .few)
 
 loop-again-2 : tie.Need-loop-again-2 Inv-loop μ-loop
 loop-again-2 c =
-    let u = builds-full (now (c .before .before .before .before .before .before .before .before .before .before .before .before .before .before .before .before .args .s)) (now (c .before .before .before .before .before .before .before .before .before .before .before .before .before .before .before .before .args .strings)) (c .before .before .before .before .before .before .before .before .before .before .before .before .loop .here) (c .before .before .before .before .before .before .before .before .before .before .before .before .loop .left) (c .before .before .before .before .before .before .before .before .before .build .last .1 .1 .0) (c .before .before .before .before .before .before .before .before .before .build .result) (c .before .before .before .before .before .before .before .before .before .build .ensures .0) (c .before .before .before .before .before .next .given .0 .0) (c .before .before .before .before .before .next .given .1) in
-    let m = meets-none (keyBelow (now (c .before .before .before .before .before .before .before .before .before .before .before .before .before .before .before .before .args .strings)) (c .before .before .before .before .before .before .before .before .before .build .last .1 .1 .0) chunkRoom) (now (c .before .before .before .before .before .before .before .before .before .before .before .before .before .before .before .before .args .s)) (now (c .before .before .before .before .before .before .before .before .before .before .before .before .before .before .before .before .args .strings)) (c .before .before .before .before .before .next .given .0 .0) (c .before .before .before .before .before .before .before .before .before .before .before .before .loop .left - chunkRoom) (c .before .before .lookup .result) (c .enum-told2 .given .1) (c .before .before .lookup .ensures) in (
+    let u = builds-full (now (c .before .before .before .before .before .before .before .before .before .before .before .before .before .before .before .before .args .structure)) (now (c .before .before .before .before .before .before .before .before .before .before .before .before .before .before .before .before .args .strings)) (c .before .before .before .before .before .before .before .before .before .before .before .before .loop .here) (c .before .before .before .before .before .before .before .before .before .before .before .before .loop .left) (c .before .before .before .before .before .before .before .before .before .build .last .1 .1 .0) (c .before .before .before .before .before .before .before .before .before .build .result) (c .before .before .before .before .before .before .before .before .before .build .ensures .0) (c .before .before .before .before .before .next .given .0 .0) (c .before .before .before .before .before .next .given .1) in
+    let m = meets-none (keyBelow (now (c .before .before .before .before .before .before .before .before .before .before .before .before .before .before .before .before .args .strings)) (c .before .before .before .before .before .before .before .before .before .build .last .1 .1 .0) chunkRoom) (now (c .before .before .before .before .before .before .before .before .before .before .before .before .before .before .before .before .args .structure)) (now (c .before .before .before .before .before .before .before .before .before .before .before .before .before .before .before .before .args .strings)) (c .before .before .before .before .before .next .given .0 .0) (c .before .before .before .before .before .before .before .before .before .before .before .before .loop .left - chunkRoom) (c .before .before .lookup .result) (c .enum-told2 .given .1) (c .before .before .lookup .ensures) in (
       omega (arith, u .few, c .before .before .before .before .before .before .before .before .before .before .before .before .loop .inv .0),
       u .within,
       c .before .before .before .before .before .before .before .before .before .before .before .before .loop .inv .2,
       c .before .before .before .before .before .before .before .before .before .build .kept .1 .1 .0 ∙ c .before .before .before .before .before .before .before .before .before .before .before .before .loop .inv .3,
       framed-then (now (c .before .before .before .before .before .before .before .before .before .before .before .before .before .before .before .before .args .work)) (c .before .before .before .before .before .before .before .before .before .before .before .before .loop .work) (c .before .before .before .before .before .before .before .before .before .build .last .1 .1 .0) (taken (c .before .before .before .before .before .before .before .before .before .before .before .before .loop .left)) (taken (c .before .before .before .before .before .before .before .before .before .before .before .before .before .before .before .before .args .all)) (omega (arith, c .before .before .before .before .before .before .before .before .before .before .before .before .loop .inv .0)) (c .before .before .before .before .before .before .before .before .before .before .before .before .loop .inv .4) (c .before .before .before .before .before .before .before .before .before .build .ensures .1),
-      λ p. sym (left-miss (keyBelow (now (c .before .before .before .before .before .before .before .before .before .before .before .before .before .before .before .before .args .strings)) (c .before .before .before .before .before .before .before .before .before .build .last .1 .1 .0) chunkRoom) (u .seen p) (propsAt (now (c .before .before .before .before .before .before .before .before .before .before .before .before .before .before .before .before .args .s)) (now (c .before .before .before .before .before .before .before .before .before .before .before .before .before .before .before .before .args .strings)) p (c .before .before .before .before .before .next .given .0 .0)) (c .before .before .before .before .before .before .before .before .before .before .before .before .loop .left - chunkRoom) (verdict 10 p (c .before .before .before .before .before .before .before .before .before .before .before .before .loop .found)) (doubledProps [] (take (c .before .before .before .before .before .before .before .before .before .before .before .before .loop .left) (propsAt (now (c .before .before .before .before .before .before .before .before .before .before .before .before .before .before .before .before .args .s)) (now (c .before .before .before .before .before .before .before .before .before .before .before .before .before .before .before .before .args .strings)) p (c .before .before .before .before .before .before .before .before .before .before .before .before .loop .here)))) (u .holds p) (u .judged p) (m .fault p) (m .rest p)) ∙ c .before .before .before .before .before .before .before .before .before .before .before .before .loop .inv .5 p,
+      λ p. sym (left-miss (keyBelow (now (c .before .before .before .before .before .before .before .before .before .before .before .before .before .before .before .before .args .strings)) (c .before .before .before .before .before .before .before .before .before .build .last .1 .1 .0) chunkRoom) (u .seen p) (propsAt (now (c .before .before .before .before .before .before .before .before .before .before .before .before .before .before .before .before .args .structure)) (now (c .before .before .before .before .before .before .before .before .before .before .before .before .before .before .before .before .args .strings)) p (c .before .before .before .before .before .next .given .0 .0)) (c .before .before .before .before .before .before .before .before .before .before .before .before .loop .left - chunkRoom) (verdict 10 p (c .before .before .before .before .before .before .before .before .before .before .before .before .loop .found)) (doubledProps [] (take (c .before .before .before .before .before .before .before .before .before .before .before .before .loop .left) (propsAt (now (c .before .before .before .before .before .before .before .before .before .before .before .before .before .before .before .before .args .structure)) (now (c .before .before .before .before .before .before .before .before .before .before .before .before .before .before .before .before .args .strings)) p (c .before .before .before .before .before .before .before .before .before .before .before .before .loop .here)))) (u .holds p) (u .judged p) (m .fault p) (m .rest p)) ∙ c .before .before .before .before .before .before .before .before .before .before .before .before .loop .inv .5 p,
     )
 
 same-length-3 : tie.Need-same-length-3 Inv-loop μ-loop

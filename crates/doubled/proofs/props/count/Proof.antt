@@ -31,22 +31,22 @@ enum-told : tie.Need-enum-told Inv-loop μ-loop
 enum-told c = search needs
 
 returns : tie.Need-returns Inv-loop μ-loop
-returns c = λ strings p. omega (arith, c .before .before .before .loop .inv .2 strings p, ap length (next-none (now (c .before .before .before .before .before .args .s)) strings (c .before .before .before .loop .at) (c .before .before .before .loop .inv .0) (c .before .before .property-at .result) (c .before .before .property-at .ensures) (c .enum-told .given .1) p))
+returns c = λ strings p. omega (arith, c .before .before .before .loop .inv .2 strings p, ap length (next-none (now (c .before .before .before .before .before .args .structure)) strings (c .before .before .before .loop .at) (c .before .before .before .loop .inv .0) (c .before .before .property-at .result) (c .before .before .property-at .ensures) (c .enum-told .given .1) p))
 
 add-n : tie.Need-add-n Inv-loop μ-loop
 add-n c =
-    let k = next-here (now (c .before .before .before .before .before .before .args .s)) [] (c .before .before .before .before .loop .at) (c .before .before .before .before .loop .inv .0) (c .before .before .before .property-at .result) (c .before .before .before .property-at .ensures) (c .before .next .given .0 .0) (c .before .next .given .0 .1 .0) (c .before .next .given .0 .1 .1 .0) (c .before .next .given .0 .1 .1 .1 .0) (c .before .next .given .0 .1 .1 .1 .1 .0) (c .before .next .given .1) in
+    let k = next-here (now (c .before .before .before .before .before .before .args .structure)) [] (c .before .before .before .before .loop .at) (c .before .before .before .before .loop .inv .0) (c .before .before .before .property-at .result) (c .before .before .before .property-at .ensures) (c .before .next .given .0 .0) (c .before .next .given .0 .1 .0) (c .before .next .given .0 .1 .1 .0) (c .before .next .given .0 .1 .1 .1 .0) (c .before .next .given .0 .1 .1 .1 .1 .0) (c .before .next .given .1) in
     omega (arith, k .within, k .inside, k .ahead)
 
 loop-less : tie.Need-loop-less Inv-loop μ-loop
 loop-less c =
-    let k = next-here (now (c .before .before .before .before .before .before .args .s)) [] (c .before .before .before .before .loop .at) (c .before .before .before .before .loop .inv .0) (c .before .before .before .property-at .result) (c .before .before .before .property-at .ensures) (c .before .next .given .0 .0) (c .before .next .given .0 .1 .0) (c .before .next .given .0 .1 .1 .0) (c .before .next .given .0 .1 .1 .1 .0) (c .before .next .given .0 .1 .1 .1 .1 .0) (c .before .next .given .1) in
+    let k = next-here (now (c .before .before .before .before .before .before .args .structure)) [] (c .before .before .before .before .loop .at) (c .before .before .before .before .loop .inv .0) (c .before .before .before .property-at .result) (c .before .before .before .property-at .ensures) (c .before .next .given .0 .0) (c .before .next .given .0 .1 .0) (c .before .next .given .0 .1 .1 .0) (c .before .next .given .0 .1 .1 .1 .0) (c .before .next .given .0 .1 .1 .1 .1 .0) (c .before .next .given .1) in
     omega (arith, k .within, k .inside, k .ahead)
 
 loop-again : tie.Need-loop-again Inv-loop μ-loop
 loop-again c =
-    let k = next-here (now (c .before .before .before .before .before .before .args .s)) [] (c .before .before .before .before .loop .at) (c .before .before .before .before .loop .inv .0) (c .before .before .before .property-at .result) (c .before .before .before .property-at .ensures) (c .before .next .given .0 .0) (c .before .next .given .0 .1 .0) (c .before .next .given .0 .1 .1 .0) (c .before .next .given .0 .1 .1 .1 .0) (c .before .next .given .0 .1 .1 .1 .1 .0) (c .before .next .given .1) in
-    (k .within, omega (arith, k .inside, k .ahead), λ strings p. omega (arith, c .before .before .before .before .loop .inv .2 strings p, ap length ((next-here (now (c .before .before .before .before .before .before .args .s)) strings (c .before .before .before .before .loop .at) (c .before .before .before .before .loop .inv .0) (c .before .before .before .property-at .result) (c .before .before .before .property-at .ensures) (c .before .next .given .0 .0) (c .before .next .given .0 .1 .0) (c .before .next .given .0 .1 .1 .0) (c .before .next .given .0 .1 .1 .1 .0) (c .before .next .given .0 .1 .1 .1 .1 .0) (c .before .next .given .1)) .list p)))
+    let k = next-here (now (c .before .before .before .before .before .before .args .structure)) [] (c .before .before .before .before .loop .at) (c .before .before .before .before .loop .inv .0) (c .before .before .before .property-at .result) (c .before .before .before .property-at .ensures) (c .before .next .given .0 .0) (c .before .next .given .0 .1 .0) (c .before .next .given .0 .1 .1 .0) (c .before .next .given .0 .1 .1 .1 .0) (c .before .next .given .0 .1 .1 .1 .1 .0) (c .before .next .given .1) in
+    (k .within, omega (arith, k .inside, k .ahead), λ strings p. omega (arith, c .before .before .before .before .loop .inv .2 strings p, ap length ((next-here (now (c .before .before .before .before .before .before .args .structure)) strings (c .before .before .before .before .loop .at) (c .before .before .before .before .loop .inv .0) (c .before .before .before .property-at .result) (c .before .before .before .property-at .ensures) (c .before .next .given .0 .0) (c .before .next .given .0 .1 .0) (c .before .next .given .0 .1 .1 .0) (c .before .next .given .0 .1 .1 .1 .0) (c .before .next .given .0 .1 .1 .1 .1 .0) (c .before .next .given .1)) .list p)))
 
 pub count-spec : {M : Type 1} → statement M
 count-spec = tie.close (tie.spec Inv-loop μ-loop loop-holds property-at-requires enum-known-next enum-told returns add-n loop-less loop-again)

@@ -22,7 +22,7 @@ abbrev μ-loop : tie.MeasureT-loop
 μ-loop s strings work from left i₀ here₀ i here = left - i
 
 loop-holds : tie.Need-loop-holds Inv-loop μ-loop
-loop-holds c = (c .before .before .before .pre .0, omega arith, λ p. looked-start (keyBelow (now (c .before .before .before .args .strings)) (now (c .before .before .before .args .work)) chunkRoom) (propsAt (now (c .before .before .before .args .s)) (now (c .before .before .before .args .strings)) p (c .before .before .before .args .from)) (c .before .before .before .args .left))
+loop-holds c = (c .before .before .before .pre .0, omega arith, λ p. looked-start (keyBelow (now (c .before .before .before .args .strings)) (now (c .before .before .before .args .work)) chunkRoom) (propsAt (now (c .before .before .before .args .structure)) (now (c .before .before .before .args .strings)) p (c .before .before .before .args .from)) (c .before .before .before .args .left))
 
 property-at-requires : tie.Need-property-at-requires Inv-loop μ-loop
 property-at-requires c κs = search needs
@@ -35,8 +35,8 @@ enum-told c = search needs
 
 returns : tie.Need-returns Inv-loop μ-loop
 returns c =
-    let n = next-none (now (c .before .before .before .before .before .before .before .before .args .s)) (now (c .before .before .before .before .before .before .before .before .args .strings)) (c .before .before .before .before .loop .here) (c .before .before .before .before .loop .inv .0) (c .before .before .property-at .result) (c .before .before .property-at .ensures) (c .enum-told .given .1) in
-    record { fault = λ p. looked-none (keyBelow (now (c .before .before .before .before .before .before .before .before .args .strings)) (now (c .before .before .before .before .before .before .before .before .args .work)) chunkRoom) (propsAt (now (c .before .before .before .before .before .before .before .before .args .s)) (now (c .before .before .before .before .before .before .before .before .args .strings)) p (c .before .before .before .before .before .before .before .before .args .from)) (c .before .before .before .before .before .before .before .before .args .left) (c .before .before .before .before .loop .i) (propsAt (now (c .before .before .before .before .before .before .before .before .args .s)) (now (c .before .before .before .before .before .before .before .before .args .strings)) p (c .before .before .before .before .loop .here)) (c .before .before .before .before .loop .inv .2 p) (c .before .before .before .before .loop .inv .1) (n p) .0; rest = λ p. looked-none (keyBelow (now (c .before .before .before .before .before .before .before .before .args .strings)) (now (c .before .before .before .before .before .before .before .before .args .work)) chunkRoom) (propsAt (now (c .before .before .before .before .before .before .before .before .args .s)) (now (c .before .before .before .before .before .before .before .before .args .strings)) p (c .before .before .before .before .before .before .before .before .args .from)) (c .before .before .before .before .before .before .before .before .args .left) (c .before .before .before .before .loop .i) (propsAt (now (c .before .before .before .before .before .before .before .before .args .s)) (now (c .before .before .before .before .before .before .before .before .args .strings)) p (c .before .before .before .before .loop .here)) (c .before .before .before .before .loop .inv .2 p) (c .before .before .before .before .loop .inv .1) (n p) .1 }
+    let n = next-none (now (c .before .before .before .before .before .before .before .before .args .structure)) (now (c .before .before .before .before .before .before .before .before .args .strings)) (c .before .before .before .before .loop .here) (c .before .before .before .before .loop .inv .0) (c .before .before .property-at .result) (c .before .before .property-at .ensures) (c .enum-told .given .1) in
+    record { fault = λ p. looked-none (keyBelow (now (c .before .before .before .before .before .before .before .before .args .strings)) (now (c .before .before .before .before .before .before .before .before .args .work)) chunkRoom) (propsAt (now (c .before .before .before .before .before .before .before .before .args .structure)) (now (c .before .before .before .before .before .before .before .before .args .strings)) p (c .before .before .before .before .before .before .before .before .args .from)) (c .before .before .before .before .before .before .before .before .args .left) (c .before .before .before .before .loop .i) (propsAt (now (c .before .before .before .before .before .before .before .before .args .structure)) (now (c .before .before .before .before .before .before .before .before .args .strings)) p (c .before .before .before .before .loop .here)) (c .before .before .before .before .loop .inv .2 p) (c .before .before .before .before .loop .inv .1) (n p) .0; rest = λ p. looked-none (keyBelow (now (c .before .before .before .before .before .before .before .before .args .strings)) (now (c .before .before .before .before .before .before .before .before .args .work)) chunkRoom) (propsAt (now (c .before .before .before .before .before .before .before .before .args .structure)) (now (c .before .before .before .before .before .before .before .before .args .strings)) p (c .before .before .before .before .before .before .before .before .args .from)) (c .before .before .before .before .before .before .before .before .args .left) (c .before .before .before .before .loop .i) (propsAt (now (c .before .before .before .before .before .before .before .before .args .structure)) (now (c .before .before .before .before .before .before .before .before .args .strings)) p (c .before .before .before .before .loop .here)) (c .before .before .before .before .loop .inv .2 p) (c .before .before .before .before .loop .inv .1) (n p) .1 }
 
 string-at-requires : tie.Need-string-at-requires Inv-loop μ-loop
 string-at-requires c κs = search needs
@@ -50,13 +50,13 @@ enum-told-2 c = search needs
 
 returns-2 : tie.Need-returns-2 Inv-loop μ-loop
 returns-2 c =
-    let k = next-here (now (c .before .before .before .before .before .before .before .before .before .before .before .before .before .args .s)) (now (c .before .before .before .before .before .before .before .before .before .before .before .before .before .args .strings)) (c .before .before .before .before .before .before .before .before .before .loop .here) (c .before .before .before .before .before .before .before .before .before .loop .inv .0) (c .before .before .before .before .before .before .before .property-at .result) (c .before .before .before .before .before .before .before .property-at .ensures) (c .before .before .before .before .before .at .given .0 .0) (c .before .before .before .before .before .at .given .0 .1 .0) (c .before .before .before .before .before .at .given .0 .1 .1 .0) (c .before .before .before .before .before .at .given .0 .1 .1 .1 .0) (c .before .before .before .before .before .at .given .0 .1 .1 .1 .1 .0) (c .before .before .before .before .before .at .given .1) in
+    let k = next-here (now (c .before .before .before .before .before .before .before .before .before .before .before .before .before .args .structure)) (now (c .before .before .before .before .before .before .before .before .before .before .before .before .before .args .strings)) (c .before .before .before .before .before .before .before .before .before .loop .here) (c .before .before .before .before .before .before .before .before .before .loop .inv .0) (c .before .before .before .before .before .before .before .property-at .result) (c .before .before .before .before .before .before .before .property-at .ensures) (c .before .before .before .before .before .at .given .0 .0) (c .before .before .before .before .before .at .given .0 .1 .0) (c .before .before .before .before .before .at .given .0 .1 .1 .0) (c .before .before .before .before .before .at .given .0 .1 .1 .1 .0) (c .before .before .before .before .before .at .given .0 .1 .1 .1 .1 .0) (c .before .before .before .before .before .at .given .1) in
     let t = finds-taken (now (c .before .before .before .before .before .before .before .before .before .before .before .before .before .args .strings)) (now (c .before .before .before .before .before .before .before .before .before .before .before .before .before .args .work)) chunkRoom (now (c .before .before .before .string-at .result)) (stringAt (now (c .before .before .before .before .before .before .before .before .before .before .before .before .before .args .strings)) (c .before .before .before .before .before .at .given .0 .1 .1 .0)) (c .before .before .find .result) (c .before .before .before .string-at .ensures) (c .enum-told2 .given .1) (c .before .before .find .ensures) in
     record {
       inside = omega (arith, k .within, k .inside, k .ahead);
       few = c .before .before .before .before .before .before .before .before .before .loop .inv .1;
-      fault = λ p. looked-hit (keyBelow (now (c .before .before .before .before .before .before .before .before .before .before .before .before .before .args .strings)) (now (c .before .before .before .before .before .before .before .before .before .before .before .before .before .args .work)) chunkRoom) (propsAt (now (c .before .before .before .before .before .before .before .before .before .before .before .before .before .args .s)) (now (c .before .before .before .before .before .before .before .before .before .before .before .before .before .args .strings)) p (c .before .before .before .before .before .before .before .before .before .before .before .before .before .args .from)) (c .before .before .before .before .before .before .before .before .before .before .before .before .before .args .left) (c .before .before .before .before .before .before .before .before .before .loop .i) (propsAt (now (c .before .before .before .before .before .before .before .before .before .before .before .before .before .args .s)) (now (c .before .before .before .before .before .before .before .before .before .before .before .before .before .args .strings)) p (c .before .before .before .before .before .before .before .before .before .loop .here)) (c .before .before .before .before .before .before .before .before .before .loop .inv .2 p) (c .before .before .before .before .before .before .before .before .loop-test .taken) (record { place = p + c .before .before .before .before .before .at .given .0 .0; name = stringAt (now (c .before .before .before .before .before .before .before .before .before .before .before .before .before .args .strings)) (c .before .before .before .before .before .at .given .0 .1 .1 .0); value = k .value }) _ (k .list p) t .0;
-      rest = λ p. looked-hit (keyBelow (now (c .before .before .before .before .before .before .before .before .before .before .before .before .before .args .strings)) (now (c .before .before .before .before .before .before .before .before .before .before .before .before .before .args .work)) chunkRoom) (propsAt (now (c .before .before .before .before .before .before .before .before .before .before .before .before .before .args .s)) (now (c .before .before .before .before .before .before .before .before .before .before .before .before .before .args .strings)) p (c .before .before .before .before .before .before .before .before .before .before .before .before .before .args .from)) (c .before .before .before .before .before .before .before .before .before .before .before .before .before .args .left) (c .before .before .before .before .before .before .before .before .before .loop .i) (propsAt (now (c .before .before .before .before .before .before .before .before .before .before .before .before .before .args .s)) (now (c .before .before .before .before .before .before .before .before .before .before .before .before .before .args .strings)) p (c .before .before .before .before .before .before .before .before .before .loop .here)) (c .before .before .before .before .before .before .before .before .before .loop .inv .2 p) (c .before .before .before .before .before .before .before .before .loop-test .taken) (record { place = p + c .before .before .before .before .before .at .given .0 .0; name = stringAt (now (c .before .before .before .before .before .before .before .before .before .before .before .before .before .args .strings)) (c .before .before .before .before .before .at .given .0 .1 .1 .0); value = k .value }) _ (k .list p) t .1;
+      fault = λ p. looked-hit (keyBelow (now (c .before .before .before .before .before .before .before .before .before .before .before .before .before .args .strings)) (now (c .before .before .before .before .before .before .before .before .before .before .before .before .before .args .work)) chunkRoom) (propsAt (now (c .before .before .before .before .before .before .before .before .before .before .before .before .before .args .structure)) (now (c .before .before .before .before .before .before .before .before .before .before .before .before .before .args .strings)) p (c .before .before .before .before .before .before .before .before .before .before .before .before .before .args .from)) (c .before .before .before .before .before .before .before .before .before .before .before .before .before .args .left) (c .before .before .before .before .before .before .before .before .before .loop .i) (propsAt (now (c .before .before .before .before .before .before .before .before .before .before .before .before .before .args .structure)) (now (c .before .before .before .before .before .before .before .before .before .before .before .before .before .args .strings)) p (c .before .before .before .before .before .before .before .before .before .loop .here)) (c .before .before .before .before .before .before .before .before .before .loop .inv .2 p) (c .before .before .before .before .before .before .before .before .loop-test .taken) (record { place = p + c .before .before .before .before .before .at .given .0 .0; name = stringAt (now (c .before .before .before .before .before .before .before .before .before .before .before .before .before .args .strings)) (c .before .before .before .before .before .at .given .0 .1 .1 .0); value = k .value }) _ (k .list p) t .0;
+      rest = λ p. looked-hit (keyBelow (now (c .before .before .before .before .before .before .before .before .before .before .before .before .before .args .strings)) (now (c .before .before .before .before .before .before .before .before .before .before .before .before .before .args .work)) chunkRoom) (propsAt (now (c .before .before .before .before .before .before .before .before .before .before .before .before .before .args .structure)) (now (c .before .before .before .before .before .before .before .before .before .before .before .before .before .args .strings)) p (c .before .before .before .before .before .before .before .before .before .before .before .before .before .args .from)) (c .before .before .before .before .before .before .before .before .before .before .before .before .before .args .left) (c .before .before .before .before .before .before .before .before .before .loop .i) (propsAt (now (c .before .before .before .before .before .before .before .before .before .before .before .before .before .args .structure)) (now (c .before .before .before .before .before .before .before .before .before .before .before .before .before .args .strings)) p (c .before .before .before .before .before .before .before .before .before .loop .here)) (c .before .before .before .before .before .before .before .before .before .loop .inv .2 p) (c .before .before .before .before .before .before .before .before .loop-test .taken) (record { place = p + c .before .before .before .before .before .at .given .0 .0; name = stringAt (now (c .before .before .before .before .before .before .before .before .before .before .before .before .before .args .strings)) (c .before .before .before .before .before .at .given .0 .1 .1 .0); value = k .value }) _ (k .list p) t .1;
     }
 
 enum-told-3 : tie.Need-enum-told-3 Inv-loop μ-loop
@@ -70,14 +70,14 @@ loop-less c = search needs
 
 loop-again : tie.Need-loop-again Inv-loop μ-loop
 loop-again c =
-    let k = next-here (now (c .before .before .before .before .before .before .before .before .before .before .before .before .before .args .s)) (now (c .before .before .before .before .before .before .before .before .before .before .before .before .before .args .strings)) (c .before .before .before .before .before .before .before .before .before .loop .here) (c .before .before .before .before .before .before .before .before .before .loop .inv .0) (c .before .before .before .before .before .before .before .property-at .result) (c .before .before .before .before .before .before .before .property-at .ensures) (c .before .before .before .before .before .at .given .0 .0) (c .before .before .before .before .before .at .given .0 .1 .0) (c .before .before .before .before .before .at .given .0 .1 .1 .0) (c .before .before .before .before .before .at .given .0 .1 .1 .1 .0) (c .before .before .before .before .before .at .given .0 .1 .1 .1 .1 .0) (c .before .before .before .before .before .at .given .1) in
+    let k = next-here (now (c .before .before .before .before .before .before .before .before .before .before .before .before .before .args .structure)) (now (c .before .before .before .before .before .before .before .before .before .before .before .before .before .args .strings)) (c .before .before .before .before .before .before .before .before .before .loop .here) (c .before .before .before .before .before .before .before .before .before .loop .inv .0) (c .before .before .before .before .before .before .before .property-at .result) (c .before .before .before .before .before .before .before .property-at .ensures) (c .before .before .before .before .before .at .given .0 .0) (c .before .before .before .before .before .at .given .0 .1 .0) (c .before .before .before .before .before .at .given .0 .1 .1 .0) (c .before .before .before .before .before .at .given .0 .1 .1 .1 .0) (c .before .before .before .before .before .at .given .0 .1 .1 .1 .1 .0) (c .before .before .before .before .before .at .given .1) in
     let t = finds-free (now (c .before .before .before .before .before .before .before .before .before .before .before .before .before .args .strings)) (now (c .before .before .before .before .before .before .before .before .before .before .before .before .before .args .work)) chunkRoom (now (c .before .before .before .string-at .result)) (stringAt (now (c .before .before .before .before .before .before .before .before .before .before .before .before .before .args .strings)) (c .before .before .before .before .before .at .given .0 .1 .1 .0)) (c .before .before .find .result) (c .enum-told3 .given .0 .0) (c .before .before .before .string-at .ensures) (c .enum-told3 .given .1) (c .before .before .find .ensures) in
-    (k .within, omega arith, λ p. looked-miss (keyBelow (now (c .before .before .before .before .before .before .before .before .before .before .before .before .before .args .strings)) (now (c .before .before .before .before .before .before .before .before .before .before .before .before .before .args .work)) chunkRoom) (propsAt (now (c .before .before .before .before .before .before .before .before .before .before .before .before .before .args .s)) (now (c .before .before .before .before .before .before .before .before .before .before .before .before .before .args .strings)) p (c .before .before .before .before .before .before .before .before .before .before .before .before .before .args .from)) (c .before .before .before .before .before .before .before .before .before .before .before .before .before .args .left) (c .before .before .before .before .before .before .before .before .before .loop .i) (propsAt (now (c .before .before .before .before .before .before .before .before .before .before .before .before .before .args .s)) (now (c .before .before .before .before .before .before .before .before .before .before .before .before .before .args .strings)) p (c .before .before .before .before .before .before .before .before .before .loop .here)) (c .before .before .before .before .before .before .before .before .before .loop .inv .2 p) (c .before .before .before .before .before .before .before .before .loop-test .taken) (record { place = p + c .before .before .before .before .before .at .given .0 .0; name = stringAt (now (c .before .before .before .before .before .before .before .before .before .before .before .before .before .args .strings)) (c .before .before .before .before .before .at .given .0 .1 .1 .0); value = k .value }) _ (k .list p) (t .missing))
+    (k .within, omega arith, λ p. looked-miss (keyBelow (now (c .before .before .before .before .before .before .before .before .before .before .before .before .before .args .strings)) (now (c .before .before .before .before .before .before .before .before .before .before .before .before .before .args .work)) chunkRoom) (propsAt (now (c .before .before .before .before .before .before .before .before .before .before .before .before .before .args .structure)) (now (c .before .before .before .before .before .before .before .before .before .before .before .before .before .args .strings)) p (c .before .before .before .before .before .before .before .before .before .before .before .before .before .args .from)) (c .before .before .before .before .before .before .before .before .before .before .before .before .before .args .left) (c .before .before .before .before .before .before .before .before .before .loop .i) (propsAt (now (c .before .before .before .before .before .before .before .before .before .before .before .before .before .args .structure)) (now (c .before .before .before .before .before .before .before .before .before .before .before .before .before .args .strings)) p (c .before .before .before .before .before .before .before .before .before .loop .here)) (c .before .before .before .before .before .before .before .before .before .loop .inv .2 p) (c .before .before .before .before .before .before .before .before .loop-test .taken) (record { place = p + c .before .before .before .before .before .at .given .0 .0; name = stringAt (now (c .before .before .before .before .before .before .before .before .before .before .before .before .before .args .strings)) (c .before .before .before .before .before .at .given .0 .1 .1 .0); value = k .value }) _ (k .list p) (t .missing))
 
 returns-3 : tie.Need-returns-3 Inv-loop μ-loop
 returns-3 c =
     let e : c .before .loop .i ≡ c .before .before .before .before .before .args .left = omega arith in
-    record { fault = λ p. looked-done (keyBelow (now (c .before .before .before .before .before .args .strings)) (now (c .before .before .before .before .before .args .work)) chunkRoom) (propsAt (now (c .before .before .before .before .before .args .s)) (now (c .before .before .before .before .before .args .strings)) p (c .before .before .before .before .before .args .from)) (c .before .before .before .before .before .args .left) (c .before .loop .i) (propsAt (now (c .before .before .before .before .before .args .s)) (now (c .before .before .before .before .before .args .strings)) p (c .before .loop .here)) (c .before .loop .inv .2 p) e .0; rest = λ p. looked-done (keyBelow (now (c .before .before .before .before .before .args .strings)) (now (c .before .before .before .before .before .args .work)) chunkRoom) (propsAt (now (c .before .before .before .before .before .args .s)) (now (c .before .before .before .before .before .args .strings)) p (c .before .before .before .before .before .args .from)) (c .before .before .before .before .before .args .left) (c .before .loop .i) (propsAt (now (c .before .before .before .before .before .args .s)) (now (c .before .before .before .before .before .args .strings)) p (c .before .loop .here)) (c .before .loop .inv .2 p) e .1 }
+    record { fault = λ p. looked-done (keyBelow (now (c .before .before .before .before .before .args .strings)) (now (c .before .before .before .before .before .args .work)) chunkRoom) (propsAt (now (c .before .before .before .before .before .args .structure)) (now (c .before .before .before .before .before .args .strings)) p (c .before .before .before .before .before .args .from)) (c .before .before .before .before .before .args .left) (c .before .loop .i) (propsAt (now (c .before .before .before .before .before .args .structure)) (now (c .before .before .before .before .before .args .strings)) p (c .before .loop .here)) (c .before .loop .inv .2 p) e .0; rest = λ p. looked-done (keyBelow (now (c .before .before .before .before .before .args .strings)) (now (c .before .before .before .before .before .args .work)) chunkRoom) (propsAt (now (c .before .before .before .before .before .args .structure)) (now (c .before .before .before .before .before .args .strings)) p (c .before .before .before .before .before .args .from)) (c .before .before .before .before .before .args .left) (c .before .loop .i) (propsAt (now (c .before .before .before .before .before .args .structure)) (now (c .before .before .before .before .before .args .strings)) p (c .before .loop .here)) (c .before .loop .inv .2 p) e .1 }
 
 pub lookup-spec : {M : Type 1} → statement M
 lookup-spec = tie.close (tie.spec Inv-loop μ-loop loop-holds property-at-requires enum-known-at enum-told returns string-at-requires find-requires enum-told-2 returns-2 enum-told-3 add-i loop-less loop-again returns-3)

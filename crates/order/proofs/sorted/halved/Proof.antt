@@ -27,8 +27,8 @@ sub-middle c = search needs
 add-middle : tie.Need-add-middle Inv-loop μ-loop
 add-middle c = search needs
 
-node-of-requires : tie.Need-node-of-requires Inv-loop μ-loop
-node-of-requires c κs = omega (arith, c .before .before .before .before .pre)
+nth-node-requires : tie.Need-nth-node-requires Inv-loop μ-loop
+nth-node-requires c κs = omega (arith, c .before .before .before .before .pre)
 
 cast-y : tie.Need-cast-y Inv-loop μ-loop
 cast-y c = search needs
@@ -46,7 +46,7 @@ loop-again : tie.Need-loop-again Inv-loop μ-loop
 loop-again c = (
   omega arith,
   c .before .before .before .before .loop .inv .1,
-  λ strings. step-up (c .before .before .before .before .before .before .before .args .place) (now (c .before .before .before .before .before .before .before .args .structure)) strings (now (c .before .before .before .before .before .before .before .args .work)) (c .before .before .before .before .before .before .before .args .count) (c .before .before .before .before .before .before .before .args .n) (c .before .before .before .before .before .before .before .args .x) (c .before .before .before .before .loop .low) (c .before .before .before .before .loop .high) (c .before .before .before .before .loop .low + (c .before .before .before .before .loop .high - c .before .before .before .before .loop .low) / 2) (c .before .before .node-of .result) (c .before .path-before .result) (omega arith) (c .before .before .before .before .loop .inv .2 strings) (c .before .before .node-of .ensures) (c .before .path-before .ensures strings) (c .if1 .taken),
+  λ strings. step-up (c .before .before .before .before .before .before .before .args .place) (now (c .before .before .before .before .before .before .before .args .structure)) strings (now (c .before .before .before .before .before .before .before .args .work)) (c .before .before .before .before .before .before .before .args .count) (c .before .before .before .before .before .before .before .args .n) (c .before .before .before .before .before .before .before .args .x) (c .before .before .before .before .loop .low) (c .before .before .before .before .loop .high) (c .before .before .before .before .loop .low + (c .before .before .before .before .loop .high - c .before .before .before .before .loop .low) / 2) (c .before .before .nth-node .result) (c .before .path-before .result) (omega arith) (c .before .before .before .before .loop .inv .2 strings) (c .before .before .nth-node .ensures) (c .before .path-before .ensures strings) (c .if1 .taken),
 )
 
 loop-less-2 : tie.Need-loop-less-2 Inv-loop μ-loop
@@ -56,7 +56,7 @@ loop-again-2 : tie.Need-loop-again-2 Inv-loop μ-loop
 loop-again-2 c = (
   omega arith,
   omega arith,
-  λ strings. step-down (c .before .before .before .before .before .before .before .args .place) (now (c .before .before .before .before .before .before .before .args .structure)) strings (now (c .before .before .before .before .before .before .before .args .work)) (c .before .before .before .before .before .before .before .args .count) (c .before .before .before .before .before .before .before .args .n) (c .before .before .before .before .before .before .before .args .x) (c .before .before .before .before .loop .low) (c .before .before .before .before .loop .high) (c .before .before .before .before .loop .low + (c .before .before .before .before .loop .high - c .before .before .before .before .loop .low) / 2) (c .before .before .node-of .result) (c .before .path-before .result) (omega arith) (c .before .before .before .before .loop .inv .2 strings) (c .before .before .node-of .ensures) (c .before .path-before .ensures strings) (c .if1 .left),
+  λ strings. step-down (c .before .before .before .before .before .before .before .args .place) (now (c .before .before .before .before .before .before .before .args .structure)) strings (now (c .before .before .before .before .before .before .before .args .work)) (c .before .before .before .before .before .before .before .args .count) (c .before .before .before .before .before .before .before .args .n) (c .before .before .before .before .before .before .before .args .x) (c .before .before .before .before .loop .low) (c .before .before .before .before .loop .high) (c .before .before .before .before .loop .low + (c .before .before .before .before .loop .high - c .before .before .before .before .loop .low) / 2) (c .before .before .nth-node .result) (c .before .path-before .result) (omega arith) (c .before .before .before .before .loop .inv .2 strings) (c .before .before .nth-node .ensures) (c .before .path-before .ensures strings) (c .if1 .left),
 )
 
 returns : tie.Need-returns Inv-loop μ-loop
@@ -66,4 +66,4 @@ returns c = (
 )
 
 pub halved-spec : {M : Type 1} → statement M
-halved-spec = tie.close (tie.spec Inv-loop μ-loop loop-holds sub-middle add-middle node-of-requires cast-y path-before-requires add-low loop-less loop-again loop-less-2 loop-again-2 returns)
+halved-spec = tie.close (tie.spec Inv-loop μ-loop loop-holds sub-middle add-middle nth-node-requires cast-y path-before-requires add-low loop-less loop-again loop-less-2 loop-again-2 returns)

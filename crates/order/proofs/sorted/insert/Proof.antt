@@ -21,11 +21,11 @@ abbrev μ-loop : tie.MeasureT-loop
 loop-holds : tie.Need-loop-holds Inv-loop μ-loop
 loop-holds c = (omega (arith, c .before .pre .0), omega arith, refl, moved-start (now (c .before .args .work)) (c .before .args .n))
 
-sub-node-of : tie.Need-sub-node-of Inv-loop μ-loop
-sub-node-of c = search needs
+sub-nth-node : tie.Need-sub-nth-node Inv-loop μ-loop
+sub-nth-node c = search needs
 
-node-of-requires : tie.Need-node-of-requires Inv-loop μ-loop
-node-of-requires c κs = omega (arith, c .before .before .before .before .pre .1)
+nth-node-requires : tie.Need-nth-node-requires Inv-loop μ-loop
+nth-node-requires c κs = omega (arith, c .before .before .before .before .pre .1)
 
 put-node-requires : tie.Need-put-node-requires Inv-loop μ-loop
 put-node-requires c κs = omega (arith, c .before .before .before .before .before .before .pre .1)
@@ -42,7 +42,7 @@ loop-again c = (
   omega arith,
   c .before .before .put-node .kept .0 ∙ c .before .before .before .before .before .before .before .loop .inv .2,
   c .before .before .put-node .ensures
-      ∙ ap (λ (y : ℕ). lay (c .before .before .before .before .before .before .before .loop .work) (stackAt + c .before .before .before .before .before .before .before .loop .i) (y ∷ [])) (c .before .before .before .before .node-of .ensures)
+      ∙ ap (λ (y : ℕ). lay (c .before .before .before .before .before .before .before .loop .work) (stackAt + c .before .before .before .before .before .before .before .loop .i) (y ∷ [])) (c .before .before .before .before .nth-node .ensures)
       ∙ moved-more (now (c .before .before .before .before .before .before .before .before .before .args .work)) (c .before .before .before .before .before .before .before .before .before .args .n) (c .before .before .before .before .before .before .before .loop .i) (c .before .before .before .before .before .before .before .loop .work) (c .before .before .before .before .before .before .before .loop .inv .3) (omega arith) (omega arith),
 )
 
@@ -56,4 +56,4 @@ returns : tie.Need-returns Inv-loop μ-loop
 returns c = c .before .before .put-node2 .ensures ∙ moved-done (now (c .before .before .before .before .before .before .before .args .work)) (c .before .before .before .before .before .before .before .args .n) (c .before .before .before .before .before .loop .i) (c .before .before .before .before .before .loop .work) (c .before .before .before .before .before .loop .inv .3) (c .before .before .before .before .before .before .before .args .at) (c .before .before .before .before .before .before .before .args .x) (omega arith)
 
 pub insert-spec : {M : Type 1} → statement M
-insert-spec = tie.close (tie.spec Inv-loop μ-loop loop-holds sub-node-of node-of-requires put-node-requires sub-i loop-less loop-again put-node-requires-2 same-length returns)
+insert-spec = tie.close (tie.spec Inv-loop μ-loop loop-holds sub-nth-node nth-node-requires put-node-requires sub-i loop-less loop-again put-node-requires-2 same-length returns)
