@@ -9,7 +9,7 @@ use Rattle.rules.specs.Octets.{lay}
 use Rattle.rules.specs.Outcome.{Outcome, Verdict, passes, gives, refuses, _then_}
 use Rattle.rules.specs.Tree.{Frame}
 use Rattle.rules.specs.Derivation.{Request, given, nodesNamed, listsJudged, configuredFrom, configuredJudged, asked}
-use Rattle.rules.specs.Laws.Verdicts.{gives-refuses, then-passes, then-then, then-refuses, then-gives}
+use Rattle.rules.specs.Laws.Verdicts.{gives-refuses, then-passes, then-refuses, then-gives}
 use Rattle.rules.specs.Laws.Octets.{length-lay}
 use Rattle.rules.specs.Laws.Given.{lists-few}
 use Rattle.rules.specs.Laws.Host.{named-front}

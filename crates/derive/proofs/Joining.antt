@@ -5,7 +5,7 @@ use Prim.Native.Nat.{ℕ, _≤_}
 use lib.ListN.{length, take}
 use Rattle.rules.specs.Ceilings.{entryCeiling}
 use Rattle.rules.specs.Octets.{Bytes, put, lay}
-use Rattle.rules.specs.Outcome.{Outcome, passes, gives, refuses, settled, _then_}
+use Rattle.rules.specs.Outcome.{Outcome, passes, gives, settled, _then_}
 use Rattle.rules.specs.Blob.{Block, blockIn}
 use Rattle.rules.specs.Events.{shapeJudged, eventsIn}
 use Rattle.rules.specs.Tree.{Tree, frame, nodesOf}

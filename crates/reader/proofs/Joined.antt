@@ -1,5 +1,5 @@
 -- The parts of the reader joined: what the header, the walk and the passes promise gives what `read` promises.
-use mathlib.Core.Path.{_≡_, refl, sym, ap, _∙_, subst}
+use mathlib.Core.Path.{_≡_, sym, ap, _∙_, subst}
 use mathlib.Core.List.{List, []}
 use Prim.Native.Nat.{ℕ, _+_, _-_, _≤_, _<_}
 use native.Mathlib.Omega.{arith}
@@ -10,7 +10,7 @@ use Rattle.rules.specs.Octets.{Bytes, zeros, lay}
 use Rattle.rules.specs.Outcome.{Outcome, Verdict, gives, refuses, passes, _then_}
 use Rattle.rules.specs.Blob.{headerIn, headerJudged, Block, blockIn, blockOf}
 use Rattle.rules.specs.Events.{shapeJudged}
-use Rattle.rules.specs.Tree.{Tree, doubledJudged, wordsJudged, sharedJudged}
+use Rattle.rules.specs.Tree.{doubledJudged, wordsJudged, sharedJudged}
 use Rattle.rules.specs.Reader.{treeRead, eventsRead, blobJudged, spaceJudged, read, rowsOf, spaceOf, tableOf, readWork}
 use Rattle.rules.specs.Laws.Verdicts.{then-passes, passes-then, then-then, then-refuses}
 use Rattle.rules.specs.Laws.Blob.{Inside, header-inside}

@@ -1,6 +1,6 @@
 -- 01, "Ceilings" and "The blob, as read": the tests of names. DTSpec 2.2.1 and 2.2.4; `node_name_valid` and
 -- `property_name_valid` of the source. All characters are ASCII, so that a name that is not UTF-8 is no valid name.
-use mathlib.Core.Bool.{Bool, true, false, not, _&&_, _||_}
+use mathlib.Core.Bool.{Bool, not, _&&_, _||_}
 use mathlib.Core.List.{[], _∷_}
 use Prim.Native.Nat.{ℕ, suc}
 use lib.Dec.{leb, eqb}

@@ -1,9 +1,9 @@
 -- `put_ids` meets its contract: the front holds the numbers, and the rest is what it was.
-use mathlib.Core.Path.{_≡_, refl, ap, _∙_}
+use mathlib.Core.Path.{_≡_, refl, _∙_}
 use mathlib.Core.List.{_++_}
 use Prim.Native.Nat.{_-_, _≤_}
 use native.Mathlib.Omega.{arith}
-use lib.ListN.{length, drop, set, length-set}
+use lib.ListN.{length, drop, length-set}
 use denote.Ref.{now}
 use Rattle.cases.specs.Case.{idsIn}
 use Rattle.cases.proofs.Turns.{ids-none, ids-more, ids-all}
