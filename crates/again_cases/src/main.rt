@@ -2,6 +2,8 @@
 // the same. A case is five numbers (the lengths of the label, of the blob's front, of the zeros behind that and of the blob's
 // rest, and how many bytes are lent for the second blob), the label, the front and the rest. tools/again_cases.py makes the
 // cases and the lines that are expected.
+#![tactic(auto)]
+
 mod compare;
 mod rewrite;
 mod told;

@@ -1,6 +1,8 @@
 // Appending to a lent buffer what a blob is made of. Each function is on one buffer, so that two parts of one buffer serve as
 // well as two. No call asks anything of its caller: what would come to stand past the end is dropped, and of a number that
 // has more than 32 bits the low 32 are written. Whoever must not lose bytes tests for room first.
+#![tactic(auto)]
+
 ghost use Rattle.std.specs.Prelude.{◌≡◌, ◌++◌, ◌%◌};
 ghost use Rattle.rules.specs.Octets.{be32, words32, words64, zeros, closed, begins, lay};
 ghost use Rattle.rules.specs.Writer.{begin_bytes, end_bytes, property_bytes, name_offset};

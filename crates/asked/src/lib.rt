@@ -1,6 +1,8 @@
 // What a request's path lists name in a tree: the numbers of its nodes, in the order of the lists. A configured path must name a
 // node, and no node twice; an excluded path that names none has no effect. The lists have passed 41, so that an array of 64
 // numbers is long enough.
+#![tactic(auto)]
+
 ghost use Rattle.std.specs.Prelude.{◌≡◌, ◌≤◌, length, take};
 ghost use Rattle.rules.specs.Ceilings.{node_ceiling};
 ghost use Rattle.rules.specs.Octets.{Bytes, lay};

@@ -3,6 +3,8 @@
 // once asked, and `stdout` what was expected of them.
 //
 // A case is laid out as one of derive_cases, but has no label, no rest behind the zeros of its host, no spans and no runs.
+#![tactic(auto)]
+
 mod line;
 mod taken;
 

@@ -1,5 +1,7 @@
 // What the case programs share: digests of what a call leaves in the buffers that it was lent, what fills them before, how much
 // of them is lent, and how a case of the derivation is laid out. Each function answers for every input.
+#![tactic(auto)]
+
 pub mod case;
 
 ghost use Rattle.std.specs.Prelude.{◌≡◌, min, length};

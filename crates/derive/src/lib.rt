@@ -1,5 +1,7 @@
 // The derivation: a guest's tree and the list of its devices, from the host's tree and a request. Both outputs are measured before
 // either is written, and a refusal leaves them as they were.
+#![tactic(auto)]
+
 mod judged;
 mod marked;
 mod written;

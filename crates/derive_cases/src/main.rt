@@ -4,6 +4,8 @@
 // and the room for list and guest that are lent, the lengths of spans and runs) and then the label, front, rest, lists, ids, spans
 // and runs. Where there are runs, the derivation is run again on the host with the bytes changed that they say (leak.rt).
 // tools/derive_cases.py makes the cases and the lines that are expected.
+#![tactic(auto)]
+
 mod leak;
 mod outcome;
 mod taken;

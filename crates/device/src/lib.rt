@@ -1,5 +1,7 @@
 // The list of what a passthrough reaches, asked for alone: `find_all_passthrough_devices` of the source. It is the list that a
 // derivation answers, without CPUs and without a guest. It is measured before it is written, and a refusal leaves it as it was.
+#![tactic(auto)]
+
 mod judged;
 mod written;
 

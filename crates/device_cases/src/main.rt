@@ -1,5 +1,7 @@
 // Asks for the list alone, of the bench tree on standard input, and prints a line for each case: its label, the answer, and digests
 // of the list's room and of the work space at return. tools/device_cases.py says what is expected.
+#![tactic(auto)]
+
 use cases::{within, within_words};
 use device::{Answer, Refusal, find_all_passthrough_devices};
 use libc::{STDIN_FILENO, STDOUT_FILENO};

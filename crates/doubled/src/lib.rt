@@ -1,5 +1,7 @@
 // Refusal 10: two siblings, or two properties of a node, share a name. A walk over the tokens of a structure block whose shape has
 // passed.
+#![tactic(auto)]
+
 mod props;
 mod sorted;
 

@@ -1,5 +1,7 @@
 // Path lists as a request lends them: paths one behind the other, each closed by NUL. Here a list is taken apart entry by
 // entry and judged; what its paths name is for others to find. Nothing is copied, and no call asks anything of its caller.
+#![tactic(auto)]
+
 ghost use Rattle.std.specs.Prelude.{◌≡◌, ℕ};
 ghost use Rattle.rules.specs.Derivation.{given, path_at_fault, paths_judged, lists_judged};
 ghost use Rattle.given.specs.Entries.{entry_at};

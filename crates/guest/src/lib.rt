@@ -1,5 +1,7 @@
 // The filtered copy: which tokens of the host are copied is said by marks, a word for each node in the work space. It is measured
 // first, and then written into a buffer that has room for it.
+#![tactic(auto)]
+
 mod laid;
 mod measured;
 mod names;

@@ -1,5 +1,7 @@
 // The command program. It reads standard input and `host.dtb`, and has the crate `program` say what to print and what the
 // guest is; then it writes `guest.dtb`, and prints. Nothing is decided here but what to do where a file can't be had.
+#![tactic(auto)]
+
 use libc::{STDIN_FILENO, STDOUT_FILENO};
 use program::{Ran, TEXT_ROOM};
 use rules::PROGRAM_CEILING;

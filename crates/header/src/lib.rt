@@ -1,5 +1,7 @@
 // The header (DTSpec 5.2) and where the blocks stand: refusals 1 to 5. The numbers of the header are below 2^32, so that no
 // sum of two wraps.
+#![tactic(auto)]
+
 ghost use Rattle.std.specs.Prelude.{◌≡◌, not, suc, ◌<◌, length};
 ghost use Rattle.rules.specs.Blob.{entries_from, missing, misplaced};
 ghost use Rattle.rules.specs.Octets.{word_at};

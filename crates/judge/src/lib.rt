@@ -1,4 +1,6 @@
 // What each of the writer's calls tests before it changes anything, and what it will take.
+#![tactic(auto)]
+
 pub mod start;
 
 ghost use Rattle.std.specs.Prelude.{◌≡◌, ◌+◌, ◌*◌, ◌/◌, ◌≤◌, ◌<◌, ◌^◌, ltb, length, take};

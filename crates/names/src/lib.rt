@@ -1,4 +1,6 @@
 // The tests of names: which characters a node name or a property name may hold, and how many.
+#![tactic(auto)]
+
 ghost use Rattle.std.specs.Prelude.{◌≡◌};
 ghost use Rattle.rules.specs.Names.{node_char, property_char, node_name_valid, property_name_valid, node_name_reads, property_name_reads};
 ghost use Rattle.rules.specs.Lists.{every};

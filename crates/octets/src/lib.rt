@@ -1,5 +1,7 @@
 // Total leaves on slices: reading numbers, comparing byte strings, laying bytes into a lent buffer. No call asks anything of
 // its caller: what stands past the end reads 0, and what would be written past the end is dropped.
+#![tactic(auto)]
+
 ghost use Rattle.std.specs.Prelude.{◌≡◌, [], ◌∷◌, ◌+◌, ◌-◌, ◌*◌, ◌<◌, min, ltb, get_or, take, drop};
 ghost use Rattle.rules.specs.Octets.{byte_at, word_at, long_at, length_to, nul_in, part, same, begins, ends, holds, lay, zeros, be32, be64};
 ghost use Rattle.rules.specs.Events.{string_at};

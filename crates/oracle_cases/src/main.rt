@@ -5,6 +5,8 @@
 // A question is a line of 45 characters and one of bytes. The first has a letter, two numbers of 16 hexadecimal digits, and two
 // of 4, which say how many characters of the second line are the name and how many the value. Of the buffers as much is lent as
 // the last `l` said; it fills them with 238 and 7, so that what is not written shows.
+#![tactic(auto)]
+
 mod script;
 mod tell;
 

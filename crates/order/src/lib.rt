@@ -1,5 +1,7 @@
 // The start nodes in byte order of path: the configured nodes and those below them, put into the work space from STACK_AT on.
 // `place` is where the structure stands in the blob, and `count` the number of rows of the node table.
+#![tactic(auto)]
+
 ghost use Rattle.std.specs.Prelude.{◌≡◌, List, ℕ, ◌+◌, ◌≤◌, ◌<◌};
 ghost use Rattle.rules.specs.Ceilings.{node_ceiling};
 ghost use Rattle.rules.specs.Octets.{Bytes};

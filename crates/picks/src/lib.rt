@@ -1,5 +1,7 @@
 // Which nodes are copied, a mark for each in the work space. Whether a node is copied hangs on what is above it, so that nodes are
 // taken in blob order, each from its parent; and on what is below it, so that the nodes above a listed one are marked first.
+#![tactic(auto)]
+
 mod codes;
 mod marks;
 

@@ -1,6 +1,8 @@
 // What the command program prints: the paths and the guest's length, or a refusal. The text is laid into a lent buffer. No
 // call asks anything of its caller: what would come to stand past the end is dropped, and the place answered is inside the
 // buffer or its end, so that no sum of lengths can wrap.
+#![tactic(auto)]
+
 ghost use Rattle.std.specs.Prelude.{◌≡◌, ◌+◌, ◌%◌, ◌<◌, min, length, drop};
 ghost use Rattle.rules.specs.Octets.{lay};
 ghost use Rattle.rules.specs.Program.{decimal, printed_refusal};

@@ -1,5 +1,7 @@
 // The command program without its files. Host and input go in; the text to print and the guest to write come out, in lent
 // buffers. Whoever calls this reads two files, writes one, and prints, and decides nothing.
+#![tactic(auto)]
+
 ghost use Rattle.std.specs.Prelude.{◌≡◌, ◌+◌, ◌/◌, ◌≤◌, min, length};
 ghost use Rattle.rules.specs.Ceilings.{program_ceiling, work_words};
 ghost use Rattle.rules.specs.Octets.{lay};

@@ -1,6 +1,8 @@
 // Reads a devicetree blob: judges its header, its shape, its names and its phandles, and leaves a table of its nodes in the
 // work space that the caller lends. Nothing is copied, and nothing but that work space is written. The steps are crates of their
 // own; here they are joined.
+#![tactic(auto)]
+
 mod pairs;
 
 ghost use Rattle.std.specs.Prelude.{[], ◌≡◌, ℕ, ◌≤◌, length};

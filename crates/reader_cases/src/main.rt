@@ -1,6 +1,8 @@
 // Runs the reader on the blobs of standard input and prints a line for each: its label, the answer, and a digest of the work
 // space at return. A case is four numbers (the label's length, the blob's, how many zeros follow it, how many words are lent),
 // the label and the blob. tools/reader_cases.py makes the cases and the lines that are expected.
+#![tactic(auto)]
+
 use cases::{within, within_words};
 use libc::{STDIN_FILENO, STDOUT_FILENO};
 use reader::Answer;

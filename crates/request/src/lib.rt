@@ -1,6 +1,8 @@
 // The request text of the command program: lines `c PATH`, `x PATH`, `i DECIMAL`. Here the text is taken apart line by line,
 // judged, and turned into the lists that a derivation is lent. No call asks anything of its caller: what would come to stand
 // past the end of a lent buffer is dropped, and the lengths answered are those of the whole lists.
+#![tactic(auto)]
+
 ghost use Rattle.std.specs.Prelude.{◌≡◌, [], ◌∷◌, ◌+◌, ◌-◌, ◌≤◌, ◌<◌, length};
 ghost use Rattle.rules.specs.Octets.{Bytes, part, lay};
 ghost use Rattle.rules.specs.Program.{lines_of, decimal_said, line_said, is_other, input_judged, configured_in, excluded_in, ids_in, named_by};

@@ -1,4 +1,6 @@
 // Reserved regions of memory, as the memory reservation block lists them (DTSpec 5.3).
+#![tactic(auto)]
+
 ghost use Rattle.std.specs.Prelude.{◌≡◌, ◌≤◌, min, take};
 ghost use Rattle.rules.specs.Ceilings.{reservation_ceiling};
 ghost use Rattle.rules.specs.Reservations.{made, invalid, any_invalid, overlapping};

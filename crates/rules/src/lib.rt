@@ -1,6 +1,8 @@
 // The numbers that code and definitions share, and the answer of the token walk. What each number bounds is said in
 // specs/Ceilings.antt: a ceiling stands once here and once there. The numbers of the Devicetree Specification, which no request
 // moves, stand here for code and where the definitions read its sections.
+#![tactic(auto)]
+
 
 // Ceilings.
 pub const BLOB_CEILING: usize = 1048576;

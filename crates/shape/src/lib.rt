@@ -1,5 +1,7 @@
 // The walk over a structure block, token by token: refusals 6 to 9, and the first two words of each node's row. The numbers of
 // the open nodes are not kept: the innermost is known, and each row has its parent's.
+#![tactic(auto)]
+
 ghost use Rattle.std.specs.Prelude.{[], ◌≡◌, ◌+◌, ◌≤◌, ◌<◌, length};
 ghost use Rattle.rules.specs.Ceilings.{blob_ceiling, open_ceiling, node_ceiling, work_words};
 ghost use Rattle.rules.specs.Blob.{block_of};

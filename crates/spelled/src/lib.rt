@@ -1,5 +1,7 @@
 // The list as it is answered: the paths of the nodes listed, each closed by NUL, measured first and then written. The nodes stand
 // in the work space as numbers.
+#![tactic(auto)]
+
 ghost use Rattle.std.specs.Prelude.{◌≡◌, ◌≤◌, length};
 ghost use Rattle.rules.specs.Ceilings.{blob_ceiling, node_ceiling, work_words};
 ghost use Rattle.rules.specs.Octets.{Bytes, lay};

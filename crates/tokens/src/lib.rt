@@ -1,4 +1,6 @@
 // The tokens of a structure block (DTSpec 5.4), read one at a time from the block alone. This is the inner loop of every walk.
+#![tactic(auto)]
+
 ghost use Rattle.std.specs.Prelude.{◌≡◌, ◌≤◌, length};
 ghost use Rattle.rules.specs.Tokens.{begin_at, prop_at, token_at};
 ghost use Rattle.tokens.specs.Properties.{behind_at, property_at};

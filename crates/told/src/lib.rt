@@ -1,4 +1,6 @@
 // The number and the place of a refusal, as they are printed.
+#![tactic(auto)]
+
 ghost use Rattle.std.specs.Prelude.{◌≡◌};
 ghost use Rattle.reader.specs.Answers.{inside_number, place_of as readerPlace};
 ghost use Rattle.derive.specs.Answers.{number_of, place_of};

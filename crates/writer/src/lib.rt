@@ -1,5 +1,7 @@
 // The writer of devicetree blobs: a state by value, and the buffers that each call is lent. Why a call is refused, 20 to 34,
 // is the `Error` of its tests, passed on.
+#![tactic(auto)]
+
 ghost use Rattle.std.specs.Prelude.{[], ◌≡◌, false, ◌+◌, ◌≤◌, length};
 ghost use Rattle.rules.specs.Ceilings.{blob_ceiling};
 ghost use Rattle.rules.specs.Octets.{be32, be64, words32, words64, closed, lay};

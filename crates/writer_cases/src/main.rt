@@ -5,6 +5,8 @@
 //
 // The script is cases, an empty line between two. A case is a line `CASE DATA STRINGS PHANDLES`, how much of each is lent, and
 // then its calls; or it is `made ADDRESS SIZE`.
+#![tactic(auto)]
+
 mod script;
 mod tell;
 

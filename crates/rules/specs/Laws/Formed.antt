@@ -256,7 +256,7 @@ module _ (f : Frame) where
       let c = or_false (missing (node_at f g.path)) (repeats g.path seen) (one_passes _ 42 g.offset a.0) in
       (c.1, a.1)
 
-  configured_new : (seen : List Bytes) {g : Given} {gs : List Given} → configured_from f seen gs ≡ passes → g ∈ gs → (p : Bytes) → p ∈ seen
+  configured_new : {g : Given} (seen : List Bytes) {gs : List Given} → configured_from f seen gs ≡ passes → g ∈ gs → (p : Bytes) → p ∈ seen
       → g.path ≡ p → ⊥
   configured_new seen h (Memᴰ.head {x = k} {xs = ks} e) p m q =
       never (repeats k.path seen) (repeats_yes m (ap (λ (x : Given). x.path) (sym e) ∙ q)) (configured_step seen k ks h).0

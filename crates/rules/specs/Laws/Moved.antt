@@ -120,7 +120,7 @@ unfolding words_from
 worded_moved had no_props h = h
 worded_moved had (moved_prop {p = p} {q = q} {ps = ps} {qs = qs} n v m) h =
     let w = words_step had p ps h in
-    let e : words_from (if is_phandle p.name then some (word_at p.value 0) else had) qs ≡ passes = worded_moved _ m w.later in
+    let e : words_from (if is_phandle p.name then some (word_at p.value 0) else had) qs ≡ passes = worded_moved (if is_phandle p.name then some (word_at p.value 0) else had) m w.later in
     step_words had q qs (record { size = rw (n, v) at w.size; phandle = rw (n, v) at w.phandle; later = rw (n, v) at e })
 
 pub words_moved : {t u : Tree} → Moved t u → words_judged t ≡ passes → words_judged u ≡ passes
@@ -146,6 +146,8 @@ shared_node : (seen : List ℕ) (a b : Node) (t u : Tree) (x y : Option Property
     → SamePhandle x y
     → ((seen : List ℕ) → shared_from seen t ≡ passes → shared_from seen u ≡ passes) → shared_from seen (a ∷ t) ≡ passes → shared_from seen (b ∷ u) ≡ passes
 shared_node seen a b t u none none e f neither ih h = shared_none seen b u f ∙ ih seen (sym (shared_none seen a t e) ∙ h)
+shared_node seen a b t u none (some q) e f x11 ih h = elim x11 [ ]
+shared_node seen a b t u (some p) none e f x8 ih h = elim x8 [ ]
 shared_node seen a b t u (some p) (some q) e f (each v) ih h =
     let s = shared_split seen a t p e h in
     let w : word_at p.value 0 ≡ word_at q.value 0 = ap (λ (z : Bytes). word_at z 0) v in

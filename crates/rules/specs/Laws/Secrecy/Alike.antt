@@ -1,6 +1,6 @@
 -- Properties, nodes, trees and events that are the same but for values that are not open: what the reader judges of them, and what
 -- it takes from them, is the same.
-use Rattle.std.specs.Prelude.{◌≡◌, refl, Bool, true, false, List, [], ◌∷◌, map, ℕ, zero, suc, ◌+◌, length}
+use Rattle.std.specs.Prelude.{◌≡◌, refl, Bool, true, false, List, [], ◌∷◌, map, ℕ, zero, suc, ◌+◌, length, ◌||◌}
 use Rattle.std.proofs.Common.{sym, ap, ap₂, ◌∙◌, subst, arith}
 use Rattle.std.proofs.Math.Option
 use Rattle.std.proofs.Math.Option.{Option, none, some}
@@ -86,7 +86,7 @@ phandle_prop_same (paired {p = p} {q = q} {ps = ps} {qs = qs} a more) = by_test 
 named_same : {O : Bytes → Type 0} (n m : Bytes) {ps qs : List Property} → n ≡ m → Alike O ps qs → named n ps ≡ named m qs
 unfolding named
 named_same n m e ended = refl
-named_same n m e (paired a more) = rw (e, a.name, named_same m m refl more)
+named_same n m e (paired {q = q} a more) = rw (e, a.name) (ap (λ (b : Bool). same m q.name || b) (named_same n m e more))
 
 -- 10 of a node's properties
 pub doubled_props_same : {O : Bytes → Type 0} {old new ps qs : List Property} → Alike O old new → Alike O ps qs
