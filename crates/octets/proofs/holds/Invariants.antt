@@ -1,0 +1,15 @@
+-- `holds` meets its contract. The invariant: the answer is that for what is left of s from i on.
+use mathlib.Core.Path.{◌≡◌, refl, sym, ap, ◌∙◌}
+use Prim.Native.Nat.{◌-◌, ◌≤◌}
+use native.Mathlib.Omega.{arith}
+use lib.ListN.{length, drop}
+use Rattle.rules.specs.Octets.{begins, holds}
+use Rattle.rules.specs.Laws.Octets.{holds_here, holds_more, holds_end, take_rest}
+use borrow.Author.Rules.{rules}
+use Rattle.octets.proofs.holds.Given as goal
+
+abbrev pub invariant-loop-i : goal.invariant-loop-i
+invariant-loop-i l = (l.i ≤ length l.s) × (holds l.p l.s ≡ holds l.p (drop l.i l.s))
+
+abbrev pub decreases-loop-i : goal.decreases-loop-i
+decreases-loop-i l = length l.s - l.i

@@ -1,0 +1,28 @@
+use mathlib.Core.Path.{◌≡◌, refl, sym, ◌∙◌}
+use Prim.Native.Nat.{◌-◌, ◌≤◌, min}
+use native.Mathlib.Nat.{le_antisymm}
+use native.Mathlib.Omega.{arith}
+use lib.ListN.{length, length-set}
+use lib.Seq.{paste-zero}
+use Rattle.rules.specs.Laws.Octets.{laid, laid_more, lay_paste}
+use borrow.Author.Rules.{rules}
+use Rattle.octets.proofs.put_bytes.Goals as goal
+
+pub loop-i-init : goal.loop-i-init
+loop-i-init c = (omega arith, c.fitting-n.ensures, paste-zero c.args.d.now c.args.at c.args.src.now, refl)
+
+pub loop-i-preserved : goal.loop-i-preserved
+loop-i-preserved c = (
+  omega arith,
+  c.loop-i.invariant.1,
+  rw c.loop-i.invariant.2 (laid_more c.args.d.now c.args.at c.args.src.now c.loop-i.i (omega arith)),
+  simp length-set c.loop-i.invariant.3,
+)
+
+pub shape_of-d : goal.shape_of-d
+shape_of-d c = c.loop-i.invariant.3
+
+pub returns : goal.returns
+returns c =
+    let end = le_antisymm c.loop-i.invariant.0 c.loop-i-test.false in
+    c.loop-i.invariant.2 ∙ rw (end, c.loop-i.invariant.1) (sym (lay_paste c.args.d.now c.args.at c.args.src.now))
