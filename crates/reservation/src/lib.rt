@@ -10,7 +10,7 @@ ghost use Rattle.reservation.specs.Made.{meaning, entry_of, entries_of};
 use rules::RESERVATION_CEILING;
 
 // A region of memory that the system is to leave alone. Only `Reservation::new` makes one.
-#[derive(Drop)]
+#[derive(Clone, Copy)]
 pub struct Reservation {
     address: u64,
     size: u64,

@@ -1,0 +1,23 @@
+-- `closed_here` meets its contract.
+use mathlib.Core.Path.{◌≡◌, sym, ◌∙◌}
+use mathlib.Core.Bool.{true, false}
+use native.Mathlib.Omega.{arith}
+use borrow.Author.Tests.{not-true, not-false}
+use Rattle.rules.specs.Octets.{begins, closed}
+use Rattle.rules.specs.Laws.Octets.{begins_short}
+use Rattle.rules.specs.Laws.Writer.{begins_closed, length_closed}
+use borrow.Author.Rules.{rules}
+use Rattle.append.proofs.closed_here.Goals as goal
+
+pub returns-then-s-n : goal.returns-then-s-n
+returns-then-s-n c = sym (begins_short (closed c.args.name.now) c.args.s.now (omega (arith, length_closed c.args.name.now)))
+
+pub returns-then-not-begins : goal.returns-then-not-begins
+returns-then-not-begins c =
+    let e : begins c.args.name.now c.args.s.now ≡ false = sym c.begins.ensures ∙ c.if-not-begins.true in
+    sym (begins_closed c.args.name.now c.args.s.now (omega arith) ∙ rw e)
+
+pub returns : goal.returns
+returns c =
+    let e : begins c.args.name.now c.args.s.now ≡ true = sym c.begins.ensures ∙ c.if-not-begins.false in
+    sym (begins_closed c.args.name.now c.args.s.now (omega arith) ∙ rw e)

@@ -1,0 +1,21 @@
+-- `property` meets its contract: three words, then the value with its padding.
+use mathlib.Core.Path.{◌≡◌, sym}
+use Prim.Native.Nat.{◌-◌, ◌%◌}
+use native.Mathlib.Omega.{arith}
+use lib.ListN.{length}
+use Rattle.rules.specs.Octets.{padded}
+use Rattle.rules.specs.Writer.{property_bytes}
+use Rattle.rules.specs.Laws.Octets.{lay_past}
+use Rattle.rules.specs.Laws.Writer.{laid_on, head_bytes, length_head, property_bytes_lem, filled_eq}
+use borrow.Author.Rules.{rules}
+use Rattle.append.proofs.property.Goals as goal
+
+pub returns-then-data-at : goal.returns-then-data-at
+returns-then-data-at c = sym (lay_past c.args.«data».now c.args.at (property_bytes c.args.nameoff c.args.value.now) c.if-data-at.true)
+
+pub returns : goal.returns
+returns c =
+    let v = c.args.value.now in
+    let z : (4 - length v % 4) % 4 ≡ padded (length v) - length v = omega arith in
+    rw (property_bytes_lem c.args.nameoff v, filled_eq v, ← z)
+    (laid_on c.args.«data».now c.args.at (head_bytes (length v) c.args.nameoff) _ c.property_head.ensures (omega (arith, length_head (length v) c.args.nameoff)) c.filled.ensures)

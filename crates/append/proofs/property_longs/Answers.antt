@@ -1,0 +1,20 @@
+-- `property_longs` meets its contract: three words, then the numbers, which need no padding.
+use mathlib.Core.Path.{sym}
+use Prim.Native.Nat.{◌*◌}
+use native.Mathlib.Omega.{arith}
+use lib.ListN.{length}
+use Rattle.rules.specs.Octets.{words64}
+use Rattle.rules.specs.Writer.{property_bytes}
+use Rattle.rules.specs.Laws.Octets.{lay_past}
+use Rattle.rules.specs.Laws.Writer.{laid_on, head_bytes, length_head, property_bytes_lem, length_words64, filled_whole}
+use borrow.Author.Rules.{rules}
+use Rattle.append.proofs.property_longs.Goals as goal
+
+pub returns-then-data-at : goal.returns-then-data-at
+returns-then-data-at c = sym (lay_past c.args.«data».now c.args.at (property_bytes c.args.nameoff (words64 c.args.cells.now)) c.if-data-at.true)
+
+pub returns : goal.returns
+returns c =
+    let vs = c.args.cells.now in
+    rw (property_bytes_lem c.args.nameoff (words64 vs), filled_whole (words64 vs) (length vs * 2) (omega (arith, length_words64 vs)), length_words64 vs)
+    (laid_on c.args.«data».now c.args.at (head_bytes (length vs * 8) c.args.nameoff) _ c.property_head.ensures (omega (arith, length_head (length vs * 8) c.args.nameoff)) c.longs.ensures)

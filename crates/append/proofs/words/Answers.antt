@@ -1,0 +1,30 @@
+use Prim.Native.Nat.{◌-◌}
+use native.Mathlib.Omega.{arith}
+use lib.ListN.{length}
+use Rattle.append.proofs.Laid.{Laid, bits32, laid_none, laid_size, laid_cut, laid_all, laid_more}
+use borrow.Author.Rules.{rules}
+use Rattle.append.proofs.words.Goals as goal
+
+pub loop-i-init : goal.loop-i-init
+loop-i-init c = laid_none bits32 c.args.«data».now c.args.at c.args.cells.now
+
+pub shape_of-data-then-data-p : goal.shape_of-data-then-data-p
+shape_of-data-then-data-p c = laid_size bits32 c.args.«data».now c.args.at c.args.cells.now c.loop-i.«data» c.loop-i.p c.loop-i.i c.loop-i.invariant
+
+pub returns-then-data-p : goal.returns-then-data-p
+unfolding bits32
+returns-then-data-p c = laid_cut bits32 c.args.«data».now c.args.at c.args.cells.now c.loop-i.«data» c.loop-i.p c.loop-i.i c.loop-i.invariant c.if-data-p.true
+
+pub overflow_add-p : goal.overflow_add-p
+overflow_add-p c = omega (arith, laid_size bits32 c.args.«data».now c.args.at c.args.cells.now c.loop-i.«data» c.loop-i.p c.loop-i.i c.loop-i.invariant)
+
+pub loop-i-preserved : goal.loop-i-preserved
+unfolding bits32
+loop-i-preserved c = laid_more bits32 c.args.«data».now c.args.at c.args.cells.now c.loop-i.«data» c.loop-i.p c.loop-i.i c.loop-i.invariant c.loop-i-test.true c.put_word.new.d c.put_word.ensures
+
+pub shape_of-data : goal.shape_of-data
+shape_of-data c = laid_size bits32 c.args.«data».now c.args.at c.args.cells.now c.loop-i.«data» c.loop-i.p c.loop-i.i c.loop-i.invariant
+
+pub returns : goal.returns
+unfolding bits32
+returns c = laid_all bits32 c.args.«data».now c.args.at c.args.cells.now c.loop-i.«data» c.loop-i.p c.loop-i.i c.loop-i.invariant c.loop-i-test.false

@@ -1,0 +1,7 @@
+-- `part` meets its contract.
+use mathlib.Core.Path.{◌∙◌}
+use borrow.Author.Rules.{rules}
+use Rattle.cases.proofs.case.part.Goals as goal
+
+pub returns : goal.returns
+returns c = c.part.ensures ∙ rw (c.start.ensures, c.size.ensures)

@@ -1,0 +1,14 @@
+-- `closed` meets its contract. The invariant: the reservations from here on are closed exactly if all are.
+use mathlib.Core.Path.{sym, ap, ◌∙◌}
+use mathlib.Core.Bool.{not}
+use Prim.Native.Nat.{◌-◌, ◌<◌}
+use native.Mathlib.Omega.{arith}
+use Rattle.rules.specs.Laws.Blob.{Searched, search_starts, search_on, entries_none, entries_here}
+use borrow.Author.Rules.{rules}
+use Rattle.header.proofs.closed.Given as goal
+
+abbrev pub invariant-loop-at : goal.invariant-loop-at
+invariant-loop-at l = (l.at < 4294967296) × Searched l.blob l.from l.limit l.at
+
+abbrev pub decreases-loop-at : goal.decreases-loop-at
+decreases-loop-at l = l.limit - l.at

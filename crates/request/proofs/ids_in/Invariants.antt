@@ -1,0 +1,19 @@
+-- `ids_in` meets its contract. The invariant: what the lines so far add is laid, and what the others add is the rest of the list.
+use mathlib.Core.List.{[]}
+use mathlib.Core.Path.{ap, ◌∙◌, subst}
+use Prim.Native.Nat.{◌-◌, ◌≤◌}
+use native.Mathlib.Omega.{arith}
+use lib.ListN.{length}
+use Rattle.rules.specs.Program.{lines_of, line_said, ids_in, named_by}
+use Rattle.rules.specs.Laws.Octets.{length_lay}
+use Rattle.rules.specs.Laws.Program.{lines_at, lines_all, Laying, laying_none, laying_more, laying_bytes, laying_count}
+use Rattle.request.proofs.Turns.{ids_done, ids_more, one_id, further, inside}
+use borrow.Author.Rules.{rules}
+use Rattle.request.proofs.ids_in.Given as goal
+
+abbrev pub invariant-loop-len : goal.invariant-loop-len
+invariant-loop-len l =
+    (l.at ≤ length l.input) × (l.laid ≤ l.at) × Laying (ids_in (lines_of l.input)) l.initial.out l.out l.laid (ids_in (lines_at l.input l.at))
+
+abbrev pub decreases-loop-len : goal.decreases-loop-len
+decreases-loop-len l = length l.input - l.at
