@@ -30,7 +30,7 @@ returns-in_default-3 c = no 58 7 c.args.c refl (omega arith) (omega arith)
 pub returns-in_default-4 : goal.returns-in_default-4
 unfolding node_char one_of steady
 returns-in_default-4 c =
-    let other : (c.args.c ≡ 95 → ⊥) = c.in-48-to-57.in-48-to-57-own.rest.1 in
+    let other : (c.args.c ≡ 95 → ⊥) = c.in_default.in_default-own.rest.1 in
     by_le c.args.c 94
     (λ h. no 91 4 c.args.c refl (omega arith) (omega arith))
     (λ h. no 96 1 c.args.c refl (omega arith) (omega arith))

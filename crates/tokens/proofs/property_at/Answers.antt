@@ -6,13 +6,14 @@ use Rattle.rules.specs.Laws.Tokens.{item_ahead}
 use Rattle.tokens.specs.Properties.{property_at}
 use Rattle.tokens.proofs.Properties.{property_stop, property_nop, property_here, property_begin, property_end}
 use borrow.Author.Rules.{rules}
+use borrow.Enum.Refused.{opened}
 use Rattle.tokens.proofs.property_at.Goals as goal
 
 pub loop-kind-init : goal.loop-kind-init
 loop-kind-init c = refl
 
 pub returns-in_default : goal.returns-in_default
-returns-in_default c = sym (c.loop-kind.invariant ∙ property_stop c.args.structure.now c.loop-kind.at c.token_at.result c.token_at.ensures c.in_default.in_default-own.keys2)
+returns-in_default c = sym (c.loop-kind.invariant ∙ property_stop c.args.structure.now c.loop-kind.at c.token_at.result c.token_at.ensures (opened c.in_default.in_default-own.keys2))
 
 pub loop-kind-smaller : goal.loop-kind-smaller
 loop-kind-smaller c = omega (arith, item_ahead c.args.structure.now c.loop-kind.at c.token_at.result c.in-Item.kind c.in-Item.next c.token_at.ensures c.in-Item.is)
