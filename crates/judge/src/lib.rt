@@ -71,7 +71,7 @@ pub fn number(error: Error) -> u64
 }
 
 // The writer's state, as a plain value to judge.
-#[derive(Drop)]
+#[derive(Clone, Copy)]
 pub struct State {
     pub data_len: usize,
     pub off_dt_struct: usize,

@@ -75,7 +75,7 @@ const CELLS: [u8; 286] = *b"\
     #pwm-cells\0\0\0\0\0\0\0\0\0\0\0\0";
 
 // The cells property that tells how many words follow a reference, by its row; past the last row there is none.
-#[derive(Drop)]
+#[derive(Clone, Copy)]
 pub struct Cells {
     pub row: usize,
 }

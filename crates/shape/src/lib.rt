@@ -32,7 +32,7 @@ pub enum Answer {
 }
 
 // How far the walk has come.
-#[derive(Drop)]
+#[derive(Clone, Copy)]
 pub struct Walk {
     // How many nodes are open.
     pub depth: usize,
