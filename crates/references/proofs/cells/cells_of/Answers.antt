@@ -24,21 +24,18 @@ returns-in_default c =
 pub returns-then-is_cells : goal.returns-then-is_cells
 returns-then-is_cells c =
     let a = c.args in
-    let k = c.len-1.given in
-    λ p. sym (c.loop-len.invariant.1 p ∙ count-value (block_of p a.structure.now a.strings.now) (meaning a.c) c.loop-len.at c.loop-len.invariant.0 c.property_at.result c.property_at.ensures k.0.0 k.0.1.0 k.0.1.1.0 k.0.1.1.1.0 k.0.1.1.1.1.0 k.1
+    λ p. sym (c.loop-len.invariant.1 p ∙ count-value (block_of p a.structure.now a.strings.now) (meaning a.c) c.loop-len.at c.loop-len.invariant.0 c.property_at.result c.property_at.ensures c.in-Here.at c.in-Here.len c.in-Here.name c.in-Here.value c.in-Here.next c.in-Here.is
     (ap (is_named (meaning a.c)) (sym c.string_at.ensures) ∙ sym c.is_cells.ensures ∙ c.if-is_cells.true)
     ∙ sym (c.word.ensures ∙ ap (λ (v : Bytes). word_at v 0) c.part.ensures))
 
 pub loop-len-smaller : goal.loop-len-smaller
 loop-len-smaller c =
-    let k = c.len-1.given in
-    omega (arith, here_ahead c.args.structure.now c.loop-len.at c.property_at.result c.property_at.ensures k.0.0 k.0.1.0 k.0.1.1.0 k.0.1.1.1.0 k.0.1.1.1.1.0 k.1)
+    omega (arith, here_ahead c.args.structure.now c.loop-len.at c.property_at.result c.property_at.ensures c.in-Here.at c.in-Here.len c.in-Here.name c.in-Here.value c.in-Here.next c.in-Here.is)
 
 pub loop-len-preserved : goal.loop-len-preserved
 loop-len-preserved c =
-    let a = c.args in
-    let k = c.len-1.given in (
-      (here_ahead a.structure.now c.loop-len.at c.property_at.result c.property_at.ensures k.0.0 k.0.1.0 k.0.1.1.0 k.0.1.1.1.0 k.0.1.1.1.1.0 k.1).1,
-      λ p. c.loop-len.invariant.1 p ∙ count-on (block_of p a.structure.now a.strings.now) (meaning a.c) c.loop-len.at c.loop-len.invariant.0 c.property_at.result c.property_at.ensures k.0.0 k.0.1.0 k.0.1.1.0 k.0.1.1.1.0 k.0.1.1.1.1.0 k.1
+    let a = c.args in (
+      (here_ahead a.structure.now c.loop-len.at c.property_at.result c.property_at.ensures c.in-Here.at c.in-Here.len c.in-Here.name c.in-Here.value c.in-Here.next c.in-Here.is).1,
+      λ p. c.loop-len.invariant.1 p ∙ count-on (block_of p a.structure.now a.strings.now) (meaning a.c) c.loop-len.at c.loop-len.invariant.0 c.property_at.result c.property_at.ensures c.in-Here.at c.in-Here.len c.in-Here.name c.in-Here.value c.in-Here.next c.in-Here.is
           (ap (is_named (meaning a.c)) (sym c.string_at.ensures) ∙ sym c.is_cells.ensures ∙ c.if-is_cells.false),
     )
