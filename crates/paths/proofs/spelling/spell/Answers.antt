@@ -1,4 +1,3 @@
--- `spell` meets its contract. The invariant: from `end` on the rest of the path stands in the buffer.
 use mathlib.Core.List.{[]}
 use mathlib.Core.Path.{◌≡◌, refl, sym, ap, ◌∙◌}
 use Prim.Native.Nat.{◌-◌}
