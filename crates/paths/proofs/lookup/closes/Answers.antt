@@ -10,8 +10,5 @@ returns-then-e-name c = sym (closes_short c.args.p.now c.args.name.now c.args.e 
 pub returns-then-p-at-ne47 : goal.returns-then-p-at-ne47
 returns-then-p-at-ne47 c = sym (closes_not c.args.p.now c.args.name.now c.args.e c.requires c.if-e-name.false c.if-p-at-ne47.true)
 
-pub same-requires : goal.same-requires
-same-requires c = tt
-
 pub returns : goal.returns
 returns c = c.same.ensures ∙ sym (closes_name c.args.p.now c.args.name.now c.args.e c.requires c.if-e-name.false c.if-p-at-ne47.false)

@@ -14,9 +14,6 @@ use Rattle.paths.proofs.Endings.{closes_room, same_not, same_on, same_none}
 use borrow.Author.Rules.{rules}
 use Rattle.paths.proofs.lookup.has_path.Goals as goal
 
-pub same-requires : goal.same-requires
-same-requires c = tt
-
 pub returns-then-i-eq0 : goal.returns-then-i-eq0
 returns-then-i-eq0 c = λ strings. c.same.ensures ∙ sym (ap (λ (x : Bytes). same x c.args.p.now) (path_root (tree_of c.args.place c.args.structure.now strings c.args.work.now c.args.count) c.args.i c.if-i-eq0.true))
 
@@ -30,9 +27,6 @@ pub returns-then-at-eq0 : goal.returns-then-at-eq0
 returns-then-at-eq0 c =
     λ strings. sym (c.loop-left.invariant.1 strings
     ∙ rw (spell_root (tree_of c.args.place c.args.structure.now strings c.args.work.now c.args.count) c.loop-left.left c.loop-left.at c.if-at-eq0.true) (same_none c.args.p.now c.args.p.now c.loop-left.e c.loop-left.invariant.0))
-
-pub name-last-requires : goal.name-last-requires
-name-last-requires c = tt
 
 pub closes-requires : goal.closes-requires
 closes-requires c = c.loop-left.invariant.0
@@ -52,9 +46,6 @@ overflow_sub-e c = omega (arith, closes_room c.args.p.now c.name-last.result.now
 
 pub overflow_sub-e-in-loop-left : goal.overflow_sub-e-in-loop-left
 overflow_sub-e-in-loop-left c = omega (arith, closes_room c.args.p.now c.name-last.result.now c.loop-left.e c.loop-left.invariant.0 (sym c.closes.ensures ∙ c.if-not-closes.false))
-
-pub up-at-requires : goal.up-at-requires
-up-at-requires c = tt
 
 pub loop-left-preserved : goal.loop-left-preserved
 loop-left-preserved c = (

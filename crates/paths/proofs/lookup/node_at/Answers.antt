@@ -13,9 +13,6 @@ use Rattle.paths.proofs.lookup.node_at.Goals as goal
 pub loop-i-init : goal.loop-i-init
 loop-i-init c = (omega arith, λ strings. among_all (block_of c.args.place c.args.structure.now strings) c.args.work.now c.args.count c.args.p.now)
 
-pub has_path-requires : goal.has_path-requires
-has_path-requires c = tt
-
 pub returns-then-has_path : goal.returns-then-has_path
 returns-then-has_path c = λ strings. sym (c.loop-i.invariant.1 strings ∙ among_here (block_of c.args.place c.args.structure.now strings) c.args.work.now c.args.count c.args.p.now c.loop-i.i c.loop-i-test.true (sym (c.has_path.ensures strings) ∙ c.if-has_path.true))
 

@@ -12,9 +12,6 @@ loop-left-init c = λ b. refl
 pub returns-then-at-eq0 : goal.returns-then-at-eq0
 returns-then-at-eq0 c = λ b. sym (c.loop-left.invariant b ∙ climb_root (tree_in b c.args.work.now c.args.count) c.loop-left.left c.args.p c.loop-left.at c.if-at-eq0.true)
 
-pub up-at-requires : goal.up-at-requires
-up-at-requires c = tt
-
 pub returns-then-at-p : goal.returns-then-at-p
 returns-then-at-p c = λ b. sym (c.loop-left.invariant b ∙ climb_hit (tree_in b c.args.work.now c.args.count) c.loop-left.left c.args.p c.loop-left.at c.up-at.result c.loop-left-test.true c.if-at-eq0.false (c.up-at.ensures b) c.if-at-p.true)
 

@@ -2,9 +2,6 @@
 use borrow.Author.Tests.{lt-ltb, le-ltb}
 use Rattle.paths.proofs.order.above.Goals as goal
 
-pub up-q-requires : goal.up-q-requires
-up-q-requires c = tt
-
 pub returns-then-q-i : goal.returns-then-q-i
 returns-then-q-i c = record {
   near = λ b. let e = c.up-q.ensures b in

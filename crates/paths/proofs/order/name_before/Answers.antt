@@ -24,8 +24,5 @@ returns-then-n-k c = sym (c.loop-k.invariant.1 ∙ name-differ c.args.n.now c.ar
 pub loop-k-preserved : goal.loop-k-preserved
 loop-k-preserved c = (omega arith, c.loop-k.invariant.1 ∙ name-more c.args.n.now c.args.o.now c.args.more c.args.other c.loop-k.k c.loop-k-test.true c.if-o-k.false c.if-n-k.false)
 
-pub rest_before-requires : goal.rest_before-requires
-rest_before-requires c = tt
-
 pub returns : goal.returns
 returns c = c.rest_before.ensures ∙ sym (c.loop-k.invariant.1 ∙ name_rest c.args.n.now c.args.o.now c.args.more c.args.other c.loop-k.k c.loop-k-test.false)

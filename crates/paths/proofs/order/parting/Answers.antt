@@ -12,9 +12,6 @@ loop-a-init c =
     λ k w g h. both_start (tree_in k c.args.work.now c.args.count) w c.args.i c.args.j
     (omega (arith, tree_length k c.args.work.now c.args.count 0)) (omega (arith, tree_length k c.args.work.now c.args.count 0))
 
-pub above-b-requires : goal.above-b-requires
-above-b-requires c = tt
-
 pub loop-a-smaller-then-a-b : goal.loop-a-smaller-then-a-b
 loop-a-smaller-then-a-b c = omega (arith, c.above-b.ensures.less (omega arith))
 
@@ -22,9 +19,6 @@ pub loop-a-preserved-then-a-b : goal.loop-a-preserved-then-a-b
 loop-a-preserved-then-a-b c =
     λ k w g h. climb_second (tree_in k c.args.work.now c.args.count) w c.args.i c.args.j c.loop-a.a c.loop-a.b c.loop-a.left c.loop-a.right c.above-b.result
     c.if-a-b.true (c.above-b.ensures.near k) (c.loop-a.invariant k w g h)
-
-pub above-a-requires : goal.above-a-requires
-above-a-requires c = tt
 
 pub loop-a-smaller : goal.loop-a-smaller
 loop-a-smaller c = omega (arith, c.above-a.ensures.less (omega arith))

@@ -11,9 +11,6 @@ use Rattle.paths.specs.Order.{slash}
 use Rattle.paths.proofs.Ways.{order_above, order_below, order_names}
 use Rattle.paths.proofs.order.path_before.Goals as goal
 
-pub parting-f-requires : goal.parting-f-requires
-parting-f-requires c = tt
-
 pub returns-then-f : goal.returns-then-f
 returns-then-f c =
     λ strings w g h.
@@ -29,15 +26,6 @@ returns-then-f-2 c =
     let l = tree_length k c.args.work.now c.args.count 0 in
     sym (order_below (tree_in k c.args.work.now c.args.count) w c.args.i c.args.j c.parting-f.result.at c.parting-f.result.left c.parting-f.result.right
     (omega arith) (omega arith) (c.parting-f.ensures k w g h) c.if-f.false c.if-f-2.true)
-
-pub name-n-requires : goal.name-n-requires
-name-n-requires c = tt
-
-pub name-o-requires : goal.name-o-requires
-name-o-requires c = tt
-
-pub name_before-requires : goal.name_before-requires
-name_before-requires c = tt
 
 pub returns : goal.returns
 returns c =

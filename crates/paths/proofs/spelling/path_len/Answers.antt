@@ -29,9 +29,6 @@ loop-left-init c = (
 pub returns-then-at-eq0 : goal.returns-then-at-eq0
 returns-then-at-eq0 c = λ strings. omega (arith, c.loop-left.invariant.2 strings, ap length (spell_root (tree_of c.args.place c.args.structure.now strings c.args.work.now c.args.count) c.loop-left.left c.loop-left.at c.if-at-eq0.true))
 
-pub name-requires : goal.name-requires
-name-requires c = tt
-
 pub overflow_add-len : goal.overflow_add-len
 unfolding blob_ceiling node_ceiling
 overflow_add-len c = omega (arith, c.requires.structure_len_bound, c.requires.count_le_node_ceiling, c.loop-left.invariant.0, c.loop-left.invariant.1, ap length (c.name.ensures []), name_short (block_of c.args.place c.args.structure.now []) c.args.work.now c.args.count c.loop-left.at)
@@ -39,9 +36,6 @@ overflow_add-len c = omega (arith, c.requires.structure_len_bound, c.requires.co
 pub overflow_add-len-in-loop-left : goal.overflow_add-len-in-loop-left
 unfolding blob_ceiling node_ceiling
 overflow_add-len-in-loop-left c = omega (arith, c.requires.structure_len_bound, c.requires.count_le_node_ceiling, c.loop-left.invariant.0, c.loop-left.invariant.1, ap length (c.name.ensures []), name_short (block_of c.args.place c.args.structure.now []) c.args.work.now c.args.count c.loop-left.at)
-
-pub up-at-requires : goal.up-at-requires
-up-at-requires c = tt
 
 pub loop-left-preserved : goal.loop-left-preserved
 unfolding blob_ceiling node_ceiling

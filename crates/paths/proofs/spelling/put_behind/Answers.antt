@@ -11,6 +11,3 @@ returns-then-out-at c = sym (lay_past c.args.out.now (c.args.at + c.args.k) c.ar
 
 pub returns-then-out-at-2 : goal.returns-then-out-at-2
 returns-then-out-at-2 c = sym (lay_past c.args.out.now (c.args.at + c.args.k) c.args.bytes.now (omega arith))
-
-pub put_bytes-requires : goal.put_bytes-requires
-put_bytes-requires c = tt

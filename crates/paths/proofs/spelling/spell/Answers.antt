@@ -11,20 +11,11 @@ use Rattle.paths.proofs.Spellings.{Laid, laid_start, laid_room, laid_on, laid_en
 use borrow.Author.Rules.{rules}
 use Rattle.paths.proofs.spelling.spell.Goals as goal
 
-pub put_bytes-requires : goal.put_bytes-requires
-put_bytes-requires c = tt
-
 pub returns-then-i-eq0 : goal.returns-then-i-eq0
 returns-then-i-eq0 c =
     λ strings.
     c.put_bytes.ensures
     ∙ sym (ap (λ (x : Bytes). lay c.args.out.now c.args.at (closed x)) (path_root (tree_of c.args.place c.args.structure.now strings c.args.work.now c.args.count) c.args.i c.if-i-eq0.true))
-
-pub path_len-end-requires : goal.path_len-end-requires
-path_len-end-requires c = record { structure_len_bound = (c.requires).0; count_le_node_ceiling = (c.requires).1 }
-
-pub put_behind-requires : goal.put_behind-requires
-put_behind-requires c = tt
 
 pub loop-left-init : goal.loop-left-init
 loop-left-init c = (refl, λ strings. laid_start (tree_of c.args.place c.args.structure.now strings c.args.work.now c.args.count) c.args.i c.path_len-end.result c.args.at c.put_behind.new.out c.if-i-eq0.false (c.path_len-end.ensures strings))
@@ -39,9 +30,6 @@ returns-then-node-eq0 c =
     laid_end t c.args.i c.loop-left.left c.loop-left.node c.loop-left.end c.args.at c.put_behind.new.out c.loop-left.out (c.loop-left.invariant.1 strings)
     (spell_root t c.loop-left.left c.loop-left.node c.if-node-eq0.true) c.args.out.now c.path_len-end.result (c.path_len-end.ensures strings) c.put_behind.ensures
 
-pub name-last-requires : goal.name-last-requires
-name-last-requires c = tt
-
 pub overflow_sub-end : goal.overflow_sub-end
 overflow_sub-end c =
     omega (
@@ -50,9 +38,6 @@ overflow_sub-end c =
           c.loop-left-test.true c.if-node-eq0.false c.name-last.result.now (c.name-last.ensures []),
     )
 
-pub put_behind-requires-in-loop-left : goal.put_behind-requires-in-loop-left
-put_behind-requires-in-loop-left c = tt
-
 pub overflow_sub-end-in-loop-left : goal.overflow_sub-end-in-loop-left
 overflow_sub-end-in-loop-left c =
     omega (
@@ -60,12 +45,6 @@ overflow_sub-end-in-loop-left c =
       laid_room (tree_of c.args.place c.args.structure.now [] c.args.work.now c.args.count) c.args.i c.loop-left.left c.loop-left.node c.loop-left.end c.args.at c.put_behind.new.out c.loop-left.out (c.loop-left.invariant.1 [])
           c.loop-left-test.true c.if-node-eq0.false c.name-last.result.now (c.name-last.ensures []),
     )
-
-pub put_behind-requires-in-loop-left-2 : goal.put_behind-requires-in-loop-left-2
-put_behind-requires-in-loop-left-2 c = tt
-
-pub up-node-requires : goal.up-node-requires
-up-node-requires c = tt
 
 pub loop-left-preserved : goal.loop-left-preserved
 loop-left-preserved c = (
