@@ -1,4 +1,3 @@
--- `reg_of` meets its contract. The invariant: what `reg` of the node says is what it says from here on.
 use mathlib.Core.Path.{◌≡◌, sym, ap, ◌∙◌}
 use Prim.Native.Nat.{ℕ, ◌-◌, ◌≤◌}
 use native.Mathlib.Omega.{arith}
