@@ -21,7 +21,7 @@ use rules::Token;
 use walk::{Walk, onward};
 
 // The lengths of the copy's two blocks, the structure without its END.
-#[derive(Drop)]
+#[derive(Clone, Copy)]
 pub struct Size {
     pub structure: usize,
     pub strings: usize,
