@@ -9,10 +9,10 @@ use Rattle.rules.specs.Octets.{lay}
 use Rattle.rules.specs.Outcome.{Outcome, Verdict, passes, gives, refuses, ◌then◌}
 use Rattle.rules.specs.Tree.{Frame}
 use Rattle.rules.specs.Derivation.{Request, given, nodes_named, lists_judged, configured_from, configured_judged, asked}
-use Rattle.rules.specs.Laws.Verdicts.{gives_refuses, then_passes, then_refuses, then_gives}
-use Rattle.rules.specs.Laws.Octets.{length_lay}
-use Rattle.rules.specs.Laws.Given.{lists_few}
-use Rattle.rules.specs.Laws.Host.{named_front}
+use Rattle.rules.proofs.Laws.Verdicts.{gives_refuses, then_passes, then_refuses, then_gives}
+use Rattle.rules.proofs.Laws.Octets.{length_lay}
+use Rattle.rules.proofs.Laws.Given.{lists_few}
+use Rattle.rules.proofs.Laws.Host.{named_front}
 use Rattle.asked.specs.Nodes.{configured_nodes, configured_outcome, configured_whole}
 
 -- how many nodes are configured, or the refusal of `verdict`; and, where it passes, the nodes

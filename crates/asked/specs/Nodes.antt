@@ -8,9 +8,9 @@ use Rattle.rules.specs.Octets.{Bytes}
 use Rattle.rules.specs.Outcome.{Outcome, gives, refuses, passes, ◌then◌}
 use Rattle.rules.specs.Tree.{Frame}
 use Rattle.rules.specs.Derivation.{Given, given, node_at, repeats, configured_from, nodes_named}
-use Rattle.rules.specs.Laws.Tests.{by_test}
-use Rattle.rules.specs.Laws.References.{by_option}
-use Rattle.rules.specs.Laws.Formed.{named_step}
+use Rattle.rules.proofs.Laws.Tests.{by_test}
+use Rattle.rules.proofs.Laws.References.{by_option}
+use Rattle.rules.proofs.Laws.Formed.{named_step}
 
 module _ (f : Frame) where
   unfoldable pub named_from : (seen : List Bytes) → List Given → List ℕ

@@ -8,7 +8,7 @@ use native.Mathlib.Omega.{arith}
 use lib.ListN.{length}
 use Rattle.rules.specs.Octets.{Bytes, part}
 use Rattle.rules.specs.Tree.{frame}
-use Rattle.rules.specs.Laws.Kept.{node_word}
+use Rattle.rules.proofs.Laws.Kept.{node_word}
 use Rattle.rules.specs.Laws.Tabled.{tree_of}
 use Rattle.references.specs.Table.{found}
 use Rattle.given.specs.Entries.{path_tells}

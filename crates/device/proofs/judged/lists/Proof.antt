@@ -4,8 +4,8 @@ use mathlib.Core.Path.{refl, sym, ap, ◌∙◌}
 use native.Mathlib.Omega.{arith}
 use lib.ListN.{length}
 use Rattle.rules.specs.Device.{wanted}
-use Rattle.rules.specs.Laws.Octets.{length_lay}
-use Rattle.rules.specs.Laws.Given.{lists_few}
+use Rattle.rules.proofs.Laws.Octets.{length_lay}
+use Rattle.rules.proofs.Laws.Given.{lists_few}
 use Rattle.rules.specs.Laws.Tabled.{tree_of}
 use Rattle.given.specs.Answers.{meaning as gmeaning}
 use Rattle.asked.specs.Answers.{meaning as ameaning}
