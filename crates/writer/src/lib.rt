@@ -21,7 +21,7 @@ use rules::{
 
 // A blob that is being written: how much of each lent buffer is in use, where the structure block begins, how many nodes
 // are open, whether the last token closed one, whether `finish` was called, and the boot CPU.
-#[derive(Drop)]
+#[derive(Clone, Copy)]
 pub struct FdtWriter {
     pub data_len: usize,
     pub off_dt_struct: usize,

@@ -1,0 +1,17 @@
+-- `count` meets its contract. The invariant: those that were counted, and those from here on, are all.
+use mathlib.Core.Path.{◌≡◌, ap}
+use mathlib.Core.List.{[]}
+use Prim.Native.Nat.{ℕ, ◌+◌, ◌-◌, ◌≤◌}
+use native.Mathlib.Omega.{arith}
+use lib.ListN.{length}
+use Rattle.rules.specs.Octets.{Bytes}
+use Rattle.doubled.specs.Passes.{props_at}
+use Rattle.doubled.proofs.Doubles.{next_here, next_none}
+use borrow.Author.Rules.{rules}
+use Rattle.doubled.proofs.props.count.Given as goal
+
+abbrev pub invariant-loop-next : goal.invariant-loop-next
+invariant-loop-next l = (l.at ≤ length l.structure) × (l.n ≤ l.at) × ((strings : Bytes) (p : ℕ) → l.n + length (props_at l.structure strings p l.at) ≡ length (props_at l.structure strings p l.from))
+
+abbrev pub decreases-loop-next : goal.decreases-loop-next
+decreases-loop-next l = length l.structure - l.at

@@ -1,0 +1,23 @@
+-- `given` meets its contract: the length, then the phandle that is known.
+use borrow.Author.Tests.{eq-eqb, ne_eqb}
+use Rattle.passes.specs.Cells.{on_given}
+use Rattle.passes.proofs.Watched.{unknown, other, again}
+use borrow.Author.Rules.{rules}
+use borrow.Enum.Refused.{opened}
+use Rattle.passes.proofs.cells.given.Goals as goal
+
+pub returns-then-value-ne4 : goal.returns-then-value-ne4
+unfolding on_given
+returns-then-value-ne4 c = simp (ne_eqb _ _ c.if-value-ne4.true)
+
+pub returns-in_default : goal.returns-in_default
+unfolding on_given
+returns-in_default c = simp (eq-eqb _ _ c.if-value-ne4.false, ← c.word-v.ensures, unknown c.args.seen c.word-v.result (opened c.in_default.in_default-own.keys2))
+
+pub returns-then-u-v : goal.returns-then-u-v
+unfolding on_given
+returns-then-u-v c = simp (eq-eqb _ _ c.if-value-ne4.false, ← c.word-v.ensures, other c.args.seen c.in-Given.u c.word-v.result c.in-Given.is c.if-u-v.true)
+
+pub returns : goal.returns
+unfolding on_given
+returns c = simp (eq-eqb _ _ c.if-value-ne4.false, ← c.word-v.ensures, again c.args.seen c.in-Given.u c.word-v.result c.in-Given.is c.if-u-v.false)

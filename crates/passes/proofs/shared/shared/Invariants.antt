@@ -1,0 +1,20 @@
+-- `shared` meets its contract. The invariant: from here on, the walk judges and writes as the definition does.
+use mathlib.Core.Path.{◌≡◌, refl, sym, ◌∙◌}
+use Prim.Native.Nat.{ℕ, ◌-◌, ◌≤◌}
+use native.Mathlib.Omega.{arith}
+use lib.ListN.{length}
+use Rattle.rules.proofs.Laws.Tokens.{item_ahead}
+use Rattle.passes.specs.Rows.{rows_from}
+use Rattle.rules.specs.Laws.Events.{events_at}
+use Rattle.doubled.specs.Passes.{nodes_in}
+use Rattle.passes.proofs.Phandles.{rows_rest, rows_start, rows_stop, rows_fault, rows_go, turn_number}
+use borrow.Author.Rules.{rules}
+use Rattle.rules.specs.Blob.{block_of}
+use Rattle.passes.proofs.shared.shared.Given as goal
+
+abbrev pub invariant-loop-kind : goal.invariant-loop-kind
+invariant-loop-kind l =
+    (l.at ≤ length l.structure) × (l.number ≤ l.at) × (length l.work ≡ length l.initial.work) × ((p : ℕ) → rows_rest l.wants l.number l.work (events_at (block_of p l.structure l.strings) l.at) ≡ rows_from l.initial.work 0 (nodes_in l.structure l.strings p))
+
+abbrev pub decreases-loop-kind : goal.decreases-loop-kind
+decreases-loop-kind l = length l.structure - l.at

@@ -1,0 +1,24 @@
+-- `FdtWriter::property_array_u64` meets its contract.
+use mathlib.Core.Bool.{false}
+use lib.ListN.{length}
+use Rattle.rules.specs.Octets.{words64}
+use Rattle.rules.proofs.Laws.Writer.{length_words64}
+use Rattle.writer.specs.Meaning.{state_of}
+use Rattle.writer.proofs.Properties.{at_place, size_of, property_refused, property_done}
+use borrow.Author.Rules.{rules}
+use Rattle.writer.proofs.FdtWriter.property_array_u64.Goals as goal
+
+pub with_property-requires : goal.with_property-requires
+with_property-requires c =
+    let p = at_place (state_of c.args.self) (length c.args.«data».now) c.args.strings.now false c.args.name.now c.longs_size-size.result _ _ c.state.ensures _ c.in-At.is c.property.ensures in
+    record { size_bound = p.data_small; strings_len_bound = p.strings_small }
+
+pub returns-in-Not : goal.returns-in-Not
+returns-in-Not c =
+    let value = words64 c.args.cells.now in
+    record { answer = (property_refused (state_of c.args.self) c.args.«data».now c.args.strings.now false c.args.name.now value c.longs_size-size.result (size_of _ _ value c.longs_size-size.ensures (length_words64 c.args.cells.now)) _ c.state.ensures _ c.property.ensures _ c.in-Not.is).0; bytes = (property_refused (state_of c.args.self) c.args.«data».now c.args.strings.now false c.args.name.now value c.longs_size-size.result (size_of _ _ value c.longs_size-size.ensures (length_words64 c.args.cells.now)) _ c.state.ensures _ c.property.ensures _ c.in-Not.is).1.0; names = (property_refused (state_of c.args.self) c.args.«data».now c.args.strings.now false c.args.name.now value c.longs_size-size.result (size_of _ _ value c.longs_size-size.ensures (length_words64 c.args.cells.now)) _ c.state.ensures _ c.property.ensures _ c.in-Not.is).1.1 }
+
+pub returns-in-At : goal.returns-in-At
+returns-in-At c =
+    let value = words64 c.args.cells.now in
+    record { answer = (property_done (state_of c.args.self) c.args.«data».now c.args.strings.now false c.args.name.now value c.longs_size-size.result (size_of _ _ value c.longs_size-size.ensures (length_words64 c.args.cells.now)) _ c.state.ensures _ c.property.ensures _ c.in-At.is _ _ _ c.property_longs.ensures c.with_property.ensures.names c.with_property.ensures.state).0; bytes = (property_done (state_of c.args.self) c.args.«data».now c.args.strings.now false c.args.name.now value c.longs_size-size.result (size_of _ _ value c.longs_size-size.ensures (length_words64 c.args.cells.now)) _ c.state.ensures _ c.property.ensures _ c.in-At.is _ _ _ c.property_longs.ensures c.with_property.ensures.names c.with_property.ensures.state).1.0; names = (property_done (state_of c.args.self) c.args.«data».now c.args.strings.now false c.args.name.now value c.longs_size-size.result (size_of _ _ value c.longs_size-size.ensures (length_words64 c.args.cells.now)) _ c.state.ensures _ c.property.ensures _ c.in-At.is _ _ _ c.property_longs.ensures c.with_property.ensures.names c.with_property.ensures.state).1.1 }
