@@ -7,7 +7,7 @@ ghost use Rattle.guest.specs.Measured.{prop_of};
 use rules::{Kind, MARKS_AT, NODE_CEILING};
 
 // The number of the next node, and how many of the open nodes are not copied.
-#[derive(Drop)]
+#[derive(Clone, Copy)]
 pub struct Walk {
     pub next: usize,
     pub skipped: usize,
@@ -83,7 +83,7 @@ pub fn onward(work: &[u32], w: Walk, kind: Kind) -> Walk
 }
 
 // The offset of a property's name in the host's strings block, if there is one.
-#[derive(Drop)]
+#[derive(Clone, Copy)]
 pub enum Named {
     At(usize),
     Nothing,

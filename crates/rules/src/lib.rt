@@ -3,6 +3,7 @@
 // moves, stand here for code and where the definitions read its sections.
 #![tactic(auto)]
 
+
 // Ceilings.
 pub const BLOB_CEILING: usize = 1048576;
 
@@ -56,7 +57,7 @@ pub const FDT_END: u32 = 9;
 
 // What stands at a place of a structure block: an item and where the next one begins, END, or neither, where no token
 // stands there, an unknown one does, or the item is cut.
-#[derive(Drop)]
+#[derive(Clone, Copy)]
 pub enum Token {
     Item { kind: Kind, next: usize },
     End,
@@ -64,7 +65,7 @@ pub enum Token {
 }
 
 // An item. Lengths and places are those of the structure block; `name` of a property is its offset in the strings block.
-#[derive(Drop)]
+#[derive(Clone, Copy)]
 pub enum Kind {
     Begin {
         len: usize,

@@ -1,0 +1,14 @@
+-- `same_name` meets its contract: the same offset has the same name.
+use mathlib.Core.Path.{sym, ap}
+use Prim.Native.Nat.{ℕ}
+use Rattle.rules.specs.Octets.{same}
+use Rattle.rules.specs.Events.{string_at}
+use Rattle.rules.proofs.Laws.Octets.{eq_same}
+use borrow.Author.Rules.{rules}
+use Rattle.guest.proofs.names.same_name.Goals as goal
+
+pub returns-then-a-b : goal.returns-then-a-b
+returns-then-a-b c = sym (eq_same _ _ (ap (λ (o : ℕ). string_at c.args.strings.now o) c.if-a-b.true))
+
+pub returns : goal.returns
+returns c = simp (← c.string_at.ensures, ← c.string_at-2.ensures) c.same.ensures

@@ -1,0 +1,42 @@
+-- `sift_one` meets its contract: the node is taken out, or moved up.
+use mathlib.Core.Path.{◌≡◌, sym, ap, ◌∙◌}
+use mathlib.Core.List.{[], ◌∷◌}
+use Prim.Native.Nat.{ℕ, ◌+◌}
+use native.Mathlib.Omega.{arith}
+use lib.ListN.{get_or}
+use borrow.Author.Tests.{not-true, not-false}
+use Rattle.rules.specs.Octets.{lay}
+use Rattle.rules.specs.Space.{list_at}
+use Rattle.rules.proofs.Laws.Kept.{node_word}
+use Rattle.rules.proofs.Laws.Constants.{list_at_lem}
+use Rattle.listing.proofs.Sieved.{sifts-out, sifts-in}
+use borrow.Author.Rules.{rules}
+use Rattle.listing.proofs.sift.sift_one.Goals as goal
+
+pub overflow_add-i : goal.overflow_add-i
+overflow_add-i c = omega (arith, node_word)
+
+pub returns-then-not-is_spared : goal.returns-then-not-is_spared
+returns-then-not-is_spared c =
+    let a = c.args in
+    record {
+      sifts = λ b ws n h l s. sifts-out b ws a.count a.excl.now n l a.work.now a.i a.j s h c.word_of-x.result
+          (c.word_of-x.ensures ∙ ap (λ (k : ℕ). get_or a.work.now (k + a.i) 0) list_at_lem) (sym (c.is_spared.ensures b) ∙ c.if-not-is_spared.true);
+      few = omega (arith, c.requires.0);
+    }
+
+pub overflow_add-j : goal.overflow_add-j
+overflow_add-j c = omega (arith, node_word)
+
+pub overflow_add-result : goal.overflow_add-result
+overflow_add-result c = omega (arith, node_word)
+
+pub returns : goal.returns
+returns c =
+    let a = c.args in
+    let e : c.put_word_of.new.d ≡ lay a.work.now (list_at + a.j) (c.word_of-x.result ∷ []) = c.put_word_of.ensures ∙ ap (λ (k : ℕ). lay a.work.now (k + a.j) (c.word_of-x.result ∷ [])) list_at_lem in
+    record {
+      sifts = λ b ws n h l s. rw e (sifts-in b ws a.count a.excl.now n l a.work.now a.i a.j s h c.word_of-x.result
+          (c.word_of-x.ensures ∙ ap (λ (k : ℕ). get_or a.work.now (k + a.i) 0) list_at_lem) (sym (c.is_spared.ensures b) ∙ c.if-not-is_spared.false));
+      few = omega (arith, c.requires.0);
+    }

@@ -1,0 +1,24 @@
+-- `each` meets its contract. The invariant: the first i nodes have had their turn.
+use mathlib.Core.Path.{◌≡◌, refl, ap, ◌∙◌}
+use mathlib.Core.List.{List}
+use Prim.Native.Nat.{ℕ, ◌-◌, ◌≤◌}
+use native.Mathlib.Omega.{arith}
+use lib.ListN.{length}
+use Rattle.rules.specs.Laws.Kept.{Kept}
+use Rattle.rules.specs.Laws.Tabled.{tree_in}
+use Rattle.picks.specs.Marks.{Noted}
+use Rattle.picks.specs.Turns.{Coded}
+use Rattle.picks.proofs.Coding.{coded_first, coded_more, coded_end, turned_length}
+use borrow.Author.Rules.{rules}
+use Rattle.rules.specs.Blob.{block_of}
+use Rattle.rules.specs.Space.{list_in}
+use Rattle.picks.proofs.each.Given as goal
+
+abbrev pub invariant-loop-i : goal.invariant-loop-i
+invariant-loop-i l =
+    (l.i ≤ l.count) × (length l.work ≡ length l.initial.work)
+    × ((ws : List ℕ) (n : ℕ) → Kept (block_of l.place l.structure l.strings) ws l.count → Noted l.count ws l.initial.work (list_in ws n)
+    → Coded (tree_in (block_of l.place l.structure l.strings) ws l.count) l.count l.excl l.ids (list_in ws n) ws l.work l.i)
+
+abbrev pub decreases-loop-i : goal.decreases-loop-i
+decreases-loop-i l = l.count - l.i
