@@ -26,7 +26,8 @@ use Rattle.references.specs.Table.{found}
 use Rattle.given.specs.declared.Entry.{Entry}
 use Rattle.given.specs.declared.Entry.TheVariants.{Path, Done}
 use Rattle.given.specs.Entries.{entry_at, path_tells, done_tells}
-use Rattle.asked.specs.Nodes.{named_from, configured_nodes, configured_outcome, from_none, from_again, from_new}
+use Rattle.asked.specs.Nodes.{named_from, configured_nodes, configured_outcome}
+use Rattle.asked.proofs.Nodes.{from_none, from_again, from_new}
 
 -- a node that a path names is one of the first `count`
 pub at_small : (place : ℕ) (structure strings : Bytes) (ws : List ℕ) (count : ℕ) (p : Bytes) (i : ℕ) → node_at (frame (tree_of place structure strings ws count)) p ≡ some i → i < count

@@ -20,8 +20,8 @@ use Rattle.rules.proofs.Laws.Host.{kept_in, tree_in_lem, read_refuses, read_pass
 use Rattle.rules.specs.Laws.Tabled.{tree_in}
 use Rattle.order.specs.Starts as start
 use Rattle.order.specs.Starts.{asked_by}
-use Rattle.asked.specs.Judged as lists
-use Rattle.asked.specs.Judged.{granted, refused_so}
+use Rattle.asked.proofs.Judged as lists
+use Rattle.asked.proofs.Judged.{granted, refused_so}
 use Rattle.reader.specs.declared.Refusal.{Refusal as ReaderRefusal}
 use Rattle.reader.specs.Answers.{number_of as readerNumber, place_of as readerPlace, refused as read_refused}
 use Rattle.derive.specs.declared.Refusal.{Refusal}

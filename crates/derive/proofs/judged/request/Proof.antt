@@ -8,7 +8,7 @@ use Rattle.rules.specs.Laws.Tabled.{tree_of}
 use Rattle.given.specs.Answers.{meaning as gmeaning}
 use Rattle.asked.specs.Answers.{meaning as ameaning}
 use Rattle.derive.specs.Answers.{checked}
-use Rattle.asked.specs.Judged.{checks_lists, checks-named, checks-whole}
+use Rattle.asked.proofs.Judged.{checks_lists, checks-named, checks-whole}
 use Rattle.derive.proofs.Checks.{request_so, behind_so}
 use borrow.Author.Rules.{rules}
 use Rattle.derive.proofs.judged.request.Statement.{statement}

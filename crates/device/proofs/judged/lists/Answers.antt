@@ -9,7 +9,7 @@ use Rattle.rules.proofs.Laws.Given.{lists_few}
 use Rattle.rules.specs.Laws.Tabled.{tree_of}
 use Rattle.given.specs.Answers.{meaning as gmeaning}
 use Rattle.asked.specs.Answers.{meaning as ameaning}
-use Rattle.asked.specs.Judged.{checks_lists, checks-named, checks-whole}
+use Rattle.asked.proofs.Judged.{checks_lists, checks-named, checks-whole}
 use Rattle.device.proofs.Checks.{wanted_so}
 use borrow.Author.Rules.{rules}
 use Rattle.device.proofs.judged.lists.Goals as goal
