@@ -8,8 +8,8 @@ use native.Mathlib.Omega.{arith}
 use lib.ListN.{length, take, get_or, length-append}
 use lib.Seq.{take-length}
 use Rattle.rules.specs.Octets.{Bytes, be32, be64, words32, words64, lay}
-use Rattle.rules.specs.Laws.Octets.{lay_nil, length_lay, length_be32, length_be64}
-use Rattle.rules.specs.Laws.Writer.{laid_on, words32_more, words64_more, words32_cut, words64_cut}
+use Rattle.rules.proofs.Laws.Octets.{lay_nil, length_lay, length_be32, length_be64}
+use Rattle.rules.proofs.Laws.Writer.{laid_on, words32_more, words64_more, words32_cut, words64_cut}
 
 -- one number's bytes, how many they are, and those of several
 pub record Width : Type 0 where

@@ -9,22 +9,25 @@ use native.Mathlib.Omega.{arith}
 use native.Mathlib.Nat.{zero-add}
 use lib.ListN.{length, take, drop, length-append}
 use lib.Seq.{take-append_seam}
-use Rattle.rules.specs.Laws.Octets.{lay_front, lay_nil, lay_lay, length_lay}
+use Rattle.rules.proofs.Laws.Octets.{lay_front, lay_nil, lay_lay, length_lay}
 use Rattle.rules.specs.Octets.{Bytes, part, lay}
 use Rattle.rules.specs.Tree.{Frame, frame}
 use Rattle.rules.specs.Lists.{one_of}
 use Rattle.rules.specs.Outcome.{gives, refuses, passes}
 use Rattle.rules.specs.Derivation.{Given, given, node_at, repeats, configured_from, nodes_named}
-use Rattle.rules.specs.Laws.Formed.{named_step, named_skip, named_mem}
-use Rattle.rules.specs.Laws.Given.{given_at, given_all, Told, told_none, told_more}
-use Rattle.rules.specs.Laws.Program.{Laying, laying_none, laying_more, laying_bytes, laying_count}
-use Rattle.rules.specs.Laws.Tabled.{tree_length, tree_of}
+use Rattle.rules.proofs.Laws.Formed.{named_step, named_skip, named_mem}
+use Rattle.rules.specs.Laws.Given.{given_at}
+use Rattle.rules.proofs.Laws.Given.{given_all, Told, told_none, told_more}
+use Rattle.rules.proofs.Laws.Program.{Laying, laying_none, laying_more, laying_bytes, laying_count}
+use Rattle.rules.specs.Laws.Tabled.{tree_of}
+use Rattle.rules.proofs.Laws.Tabled.{tree_length}
 use Rattle.references.specs.declared.table.Node.{Node}
 use Rattle.references.specs.Table.{found}
 use Rattle.given.specs.declared.Entry.{Entry}
 use Rattle.given.specs.declared.Entry.TheVariants.{Path, Done}
 use Rattle.given.specs.Entries.{entry_at, path_tells, done_tells}
-use Rattle.asked.specs.Nodes.{named_from, configured_nodes, configured_outcome, from_none, from_again, from_new}
+use Rattle.asked.specs.Nodes.{named_from, configured_nodes, configured_outcome}
+use Rattle.asked.proofs.Nodes.{from_none, from_again, from_new}
 
 -- a node that a path names is one of the first `count`
 pub at_small : (place : ℕ) (structure strings : Bytes) (ws : List ℕ) (count : ℕ) (p : Bytes) (i : ℕ) → node_at (frame (tree_of place structure strings ws count)) p ≡ some i → i < count

@@ -13,9 +13,10 @@ use Rattle.rules.specs.Blob.{Block}
 use Rattle.rules.specs.Events.{Property, string_at}
 use Rattle.rules.specs.Tree.{Node, node, props_of, value_of}
 use Rattle.rules.specs.Copy.{register_of, reg_of}
-use Rattle.rules.specs.Laws.Tests.{by_test}
+use Rattle.rules.proofs.Laws.Tests.{by_test}
 use Rattle.rules.specs.Laws.Events.{events_at}
-use Rattle.rules.specs.Laws.Tabled.{props_at, begin_of, tree_in, node_in_lem, node_out}
+use Rattle.rules.specs.Laws.Tabled.{props_at, begin_of, tree_in}
+use Rattle.rules.proofs.Laws.Tabled.{node_in_lem, node_out}
 use Rattle.tokens.specs.declared.Property as next
 use Rattle.tokens.specs.declared.Property.TheVariants.{Here, Missing}
 use Rattle.tokens.specs.Properties.{behind_at, property_at}

@@ -18,7 +18,8 @@ use Rattle.rules.specs.Blob.{Block, missing}
 use Rattle.rules.specs.Tree.{Node, Tree, node, Frame, frame, numbers, numbers_from}
 use Rattle.rules.specs.Copy.{is_cpus, cpu_child, reg_of, is_id}
 use Rattle.rules.specs.Derivation.{cpus_from, met, ids_from}
-use Rattle.rules.specs.Laws.Tabled.{cell, tree_in, tree_length, node_in_lem}
+use Rattle.rules.specs.Laws.Tabled.{cell, tree_in}
+use Rattle.rules.proofs.Laws.Tabled.{tree_length, node_in_lem}
 
 -- ---- the ids
 

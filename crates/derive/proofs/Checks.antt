@@ -7,7 +7,7 @@ use lib.ListN.{length}
 use Rattle.rules.specs.Outcome.{Outcome, passes, gives, refuses, ◌then◌}
 use Rattle.rules.specs.Tree.{Tree, frame, numbers}
 use Rattle.rules.specs.Derivation.{Request, cpus_from, cpus_judged, ids_from, request_judged}
-use Rattle.rules.specs.Laws.Verdicts.{then_then}
+use Rattle.rules.proofs.Laws.Verdicts.{then_then}
 use Rattle.asked.specs.Judged.{Judges}
 
 -- ---- 43 and 44

@@ -13,14 +13,15 @@ use Rattle.rules.specs.Copy.{Asked as AskedFor}
 use Rattle.rules.specs.Reader.{events_read, tree_read, blob_judged, space_judged, read, read_work}
 use Rattle.rules.specs.References.{edition1}
 use Rattle.rules.specs.Derivation.{Request, Derived, given, nodes_named, asked, request_judged, listed_paths, list_of, guest_of, derive, derive_list, derive_guest, derive_work}
-use Rattle.rules.specs.Laws.Verdicts.{passes_then}
-use Rattle.rules.specs.Laws.Formed.{accepted}
-use Rattle.rules.specs.Laws.Host.{HostRead, kept_in, tree_in_lem, read_refuses, read_passes, space_left}
+use Rattle.rules.proofs.Laws.Verdicts.{passes_then}
+use Rattle.rules.proofs.Laws.Formed.{accepted}
+use Rattle.rules.specs.Laws.Host.{HostRead}
+use Rattle.rules.proofs.Laws.Host.{kept_in, tree_in_lem, read_refuses, read_passes, space_left}
 use Rattle.rules.specs.Laws.Tabled.{tree_in}
 use Rattle.order.specs.Starts as start
 use Rattle.order.specs.Starts.{asked_by}
-use Rattle.asked.specs.Judged as lists
-use Rattle.asked.specs.Judged.{granted, refused_so}
+use Rattle.asked.proofs.Judged as lists
+use Rattle.asked.proofs.Judged.{granted, refused_so}
 use Rattle.reader.specs.declared.Refusal.{Refusal as ReaderRefusal}
 use Rattle.reader.specs.Answers.{number_of as readerNumber, place_of as readerPlace, refused as read_refused}
 use Rattle.derive.specs.declared.Refusal.{Refusal}

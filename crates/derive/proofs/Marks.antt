@@ -13,10 +13,12 @@ use Rattle.rules.specs.References.{edition1}
 use Rattle.rules.specs.Listing.{◌∈◌, listed}
 use Rattle.rules.specs.Copy.{picked, copied}
 use Rattle.rules.specs.Space.{list_at, list_in}
-use Rattle.rules.specs.Laws.Lists.{mem_at}
-use Rattle.rules.specs.Laws.Listing.{listed_small}
-use Rattle.rules.specs.Laws.Kept.{Kept, kept_alike, tree_alike, only_alike, only_drop, marks_behind, stack_behind}
-use Rattle.rules.specs.Laws.Tabled.{tree_in, tree_length}
+use Rattle.rules.proofs.Laws.Lists.{mem_at}
+use Rattle.rules.proofs.Laws.Listing.{listed_small}
+use Rattle.rules.specs.Laws.Kept.{Kept}
+use Rattle.rules.proofs.Laws.Kept.{kept_alike, tree_alike, only_alike, only_drop, marks_behind, stack_behind}
+use Rattle.rules.specs.Laws.Tabled.{tree_in}
+use Rattle.rules.proofs.Laws.Tabled.{tree_length}
 use Rattle.order.specs.Starts.{Asked}
 use Rattle.listing.specs.Lists.{Lists}
 use Rattle.picks.specs.Turns.{pick_of, Picks}

@@ -22,13 +22,14 @@ use Rattle.rules.specs.Copy.{Asked as AskedFor}
 use Rattle.rules.specs.Written.{write_events, blob_of}
 use Rattle.rules.specs.Derivation.{Derived, room_judged}
 use Rattle.rules.specs.Space.{marks_at, list_at, stack_at}
-use Rattle.rules.specs.Laws.Tests.{and_true}
-use Rattle.rules.specs.Laws.Octets.{lay_put}
-use Rattle.rules.specs.Laws.Copy.{copied_root, copied_parent}
-use Rattle.rules.specs.Laws.Listing.{listed_small}
+use Rattle.rules.proofs.Laws.Tests.{and_true}
+use Rattle.rules.proofs.Laws.Octets.{lay_put}
+use Rattle.rules.proofs.Laws.Copy.{copied_root, copied_parent}
+use Rattle.rules.proofs.Laws.Listing.{listed_small}
 use Rattle.rules.specs.Laws.Sieve.{Upward}
-use Rattle.rules.specs.Laws.Kept.{tree_alike, only_drop, marks_behind, list_behind, stack_behind}
-use Rattle.rules.specs.Laws.Tabled.{tree_in, tree_length}
+use Rattle.rules.proofs.Laws.Kept.{tree_alike, only_drop, marks_behind, list_behind, stack_behind}
+use Rattle.rules.specs.Laws.Tabled.{tree_in}
+use Rattle.rules.proofs.Laws.Tabled.{tree_length}
 use Rattle.order.specs.Starts.{Asked}
 use Rattle.guest.specs.declared.Size.{Size}
 use Rattle.guest.specs.Walked.{marked, sieved, blank, Ready, Above}

@@ -5,7 +5,7 @@ use Rattle.rules.specs.Outcome.{Verdict, passes, ◌then◌}
 use Rattle.rules.specs.Tree.{Tree, frame}
 use Rattle.rules.specs.Derivation.{lists_judged, configured_judged}
 use Rattle.rules.specs.Device.{wanted}
-use Rattle.rules.specs.Laws.Verdicts.{then_end}
+use Rattle.rules.proofs.Laws.Verdicts.{then_end}
 use Rattle.asked.specs.Judged.{Judges}
 use Rattle.device.specs.Answered.{wanted_judged}
 

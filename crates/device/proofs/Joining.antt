@@ -13,13 +13,14 @@ use Rattle.rules.specs.Reader.{tree_read, blob_judged, space_judged, read, read_
 use Rattle.rules.specs.References.{edition1}
 use Rattle.rules.specs.Derivation.{Request, given, nodes_named, asked, lists_judged, configured_judged, listed_paths, list_of}
 use Rattle.rules.specs.Device.{wanted, Found, find, find_list, find_work}
-use Rattle.rules.specs.Laws.Verdicts.{passes_then, then_then}
-use Rattle.rules.specs.Laws.Host.{HostRead, kept_in, tree_in_lem, read_refuses, read_passes, space_left}
+use Rattle.rules.proofs.Laws.Verdicts.{passes_then, then_then}
+use Rattle.rules.specs.Laws.Host.{HostRead}
+use Rattle.rules.proofs.Laws.Host.{kept_in, tree_in_lem, read_refuses, read_passes, space_left}
 use Rattle.rules.specs.Laws.Tabled.{tree_in}
 use Rattle.order.specs.Starts as start
 use Rattle.order.specs.Starts.{asked_by}
-use Rattle.asked.specs.Judged as lists
-use Rattle.asked.specs.Judged.{granted, refused_so}
+use Rattle.asked.proofs.Judged as lists
+use Rattle.asked.proofs.Judged.{granted, refused_so}
 use Rattle.reader.specs.declared.Refusal.{Refusal as ReaderRefusal}
 use Rattle.reader.specs.Answers.{number_of as readerNumber, place_of as readerPlace, refused as read_refused}
 use Rattle.device.specs.declared.Refusal.{Refusal}

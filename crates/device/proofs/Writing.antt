@@ -12,10 +12,10 @@ use Rattle.rules.specs.Tree.{Tree, path}
 use Rattle.rules.specs.References.{edition1}
 use Rattle.rules.specs.Listing.{listed, paths_bytes}
 use Rattle.rules.specs.Device.{list_room_judged}
-use Rattle.rules.specs.Laws.Octets.{lay_put}
-use Rattle.rules.specs.Laws.Kept.{tree_alike, only_drop}
+use Rattle.rules.proofs.Laws.Octets.{lay_put}
+use Rattle.rules.proofs.Laws.Kept.{tree_alike, only_drop}
 use Rattle.rules.specs.Laws.Tabled.{tree_in}
-use Rattle.rules.specs.Laws.Device.{list_short, list_fits}
+use Rattle.rules.proofs.Laws.Device.{list_short, list_fits}
 use Rattle.order.specs.Starts.{Asked}
 use Rattle.listing.specs.Lists.{Lists}
 use Rattle.spelled.specs.Lists.{list_bytes}

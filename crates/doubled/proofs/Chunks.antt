@@ -15,10 +15,11 @@ use Rattle.rules.specs.Octets.{Bytes, before, same, byte_at, zeros, lay}
 use Rattle.rules.specs.Events.{Property, string_at}
 use Rattle.rules.specs.Outcome.{refuses, passes}
 use Rattle.rules.specs.Tree.{named, doubled_props}
-use Rattle.rules.specs.Laws.Tests.{by_test, by_le, never, both_ways, not_passed, or_cases, or_left, or_right}
-use Rattle.rules.specs.Laws.Octets.{same_eq, eq_same}
-use Rattle.rules.specs.Laws.Kept.{Only, only_zeros, zeros_at}
-use Rattle.rules.specs.Laws.Order.{before_irrefl, before_trans, before_total}
+use Rattle.rules.proofs.Laws.Tests.{by_test, by_le, never, both_ways, not_passed, or_cases, or_left, or_right}
+use Rattle.rules.proofs.Laws.Octets.{same_eq, eq_same}
+use Rattle.rules.specs.Laws.Kept.{Only}
+use Rattle.rules.proofs.Laws.Kept.{only_zeros, zeros_at}
+use Rattle.rules.proofs.Laws.Order.{before_irrefl, before_trans, before_total}
 use Rattle.doubled.specs.Sorted.{chunk_start, chunk_room, key_at, key_below, Ordered, Between, Fresh, Finds, Inserted, Framed}
 use Rattle.doubled.specs.Passes.{props_at}
 use Rattle.doubled.specs.Props.{Full, Twin, Builds, Clear}

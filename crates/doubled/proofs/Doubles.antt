@@ -12,8 +12,8 @@ use Rattle.rules.specs.Outcome.{Verdict, gives, refuses, passes, ◌then◌}
 use Rattle.rules.specs.Blob.{block_of}
 use Rattle.rules.specs.Events.{Property, string_at}
 use Rattle.rules.specs.Tree.{named, doubled_props}
-use Rattle.rules.specs.Laws.Tests.{by_test, or_nothing, or_right, or_assoc}
-use Rattle.rules.specs.Laws.Tokens.{prop_says}
+use Rattle.rules.proofs.Laws.Tests.{by_test, or_nothing, or_right, or_assoc}
+use Rattle.rules.proofs.Laws.Tokens.{prop_says}
 use Rattle.tokens.specs.declared.Property as read
 use Rattle.tokens.specs.declared.Property.TheVariants.{Here, Missing}
 use Rattle.tokens.specs.Properties.{property_at}

@@ -13,7 +13,7 @@ use Rattle.rules.specs.declared.Token.{Token}
 use Rattle.rules.specs.declared.Token.TheVariants.{Item, End, Cut}
 use Rattle.rules.specs.declared.Kind.{Kind}
 use Rattle.rules.specs.Laws.Events.{events_at}
-use Rattle.rules.specs.Laws.Events as laws
+use Rattle.rules.proofs.Laws.Events as laws
 
 pub events_all : (b : Block) → events_at b 0 ≡ events_in b
 events_all b = sym (laws.events_all b)

@@ -23,9 +23,9 @@ use Rattle.rules.specs.declared.Token.{Token}
 use Rattle.rules.specs.declared.Token.TheVariants.{Item}
 use Rattle.rules.specs.declared.Kind.{Kind}
 use Rattle.rules.specs.declared.Kind.TheVariants.{Begin, EndNode, Prop, Nop}
-use Rattle.rules.specs.Laws.Tests.{by_test, by_le, both_ways, and_true, true_and, or_left, or_right, and_none, eqb_sym}
-use Rattle.rules.specs.Laws.Octets.{nul_le, nul_byte, nul_before, begins_split, begins_append, same_eq, eq_same}
-use Rattle.rules.specs.Laws.Tokens.{begin_says}
+use Rattle.rules.proofs.Laws.Tests.{by_test, by_le, both_ways, and_true, true_and, or_left, or_right, and_none, eqb_sym}
+use Rattle.rules.proofs.Laws.Octets.{nul_le, nul_byte, nul_before, begins_split, begins_append, same_eq, eq_same}
+use Rattle.rules.proofs.Laws.Tokens.{begin_says}
 use Rattle.rules.specs.Laws.Events.{events_at}
 use Rattle.doubled.specs.Passes.{nodes_in, has_row, verdict}
 use Rattle.doubled.specs.declared.Found.{Found}

@@ -8,7 +8,8 @@ use Rattle.rules.specs.Octets.{Bytes, part}
 use Rattle.rules.specs.Ceilings.{entry_ceiling}
 use Rattle.rules.specs.Outcome.{passes, refuses}
 use Rattle.rules.specs.Derivation.{Given, given, path_at_fault, paths_judged}
-use Rattle.rules.specs.Laws.Given.{given_at, paths_none, paths_fault, paths_good, fault_index}
+use Rattle.rules.specs.Laws.Given.{given_at}
+use Rattle.rules.proofs.Laws.Given.{paths_none, paths_fault, paths_good, fault_index}
 use Rattle.given.specs.declared.Entry.{Entry}
 use Rattle.given.specs.declared.Entry.TheVariants.{Path, Done}
 use Rattle.given.specs.Entries.{entry_at, path_tells, done_tells}

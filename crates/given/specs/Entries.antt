@@ -3,8 +3,9 @@ use Rattle.std.specs.Prelude.{◌≡◌, Bool, true, false, List, [], ◌∷◌,
 use Rattle.std.proofs.Common.{sym, ap, ◌∙◌, subst, arith, ltb-true, ltb-false}
 use Rattle.rules.specs.Octets.{Bytes, if◌then◌else◌, part, nul_in}
 use Rattle.rules.specs.Derivation.{Given}
-use Rattle.rules.specs.Laws.Tokens.{if_by}
-use Rattle.rules.specs.Laws.Given.{given_at, given_step, given_end, given_last, given_inside}
+use Rattle.rules.proofs.Laws.Tokens.{if_by}
+use Rattle.rules.specs.Laws.Given.{given_at}
+use Rattle.rules.proofs.Laws.Given.{given_step, given_end, given_last, given_inside}
 use Rattle.given.specs.declared.Entry.{Entry}
 use Rattle.given.specs.declared.Entry.TheVariants.{Path, Done}
 

@@ -7,9 +7,9 @@ use lib.ListN.{length, take, drop, take-append-drop}
 use Rattle.rules.specs.Octets.{Bytes, be32, words32, zeros, part, put, lay}
 use Rattle.rules.specs.Writer.{header_bytes}
 use Rattle.rules.specs.Written.{Blocks, write_events, blob_with, blob_of}
-use Rattle.rules.specs.Laws.Octets.{length_part, part_part, length_lay, length_be32, length_zeros}
-use Rattle.rules.specs.Laws.Writer.{be32_low}
-use Rattle.rules.specs.Laws.Header.{length_header}
+use Rattle.rules.proofs.Laws.Octets.{length_part, part_part, length_lay, length_be32, length_zeros}
+use Rattle.rules.proofs.Laws.Writer.{be32_low}
+use Rattle.rules.proofs.Laws.Header.{length_header}
 use Rattle.guest.specs.declared.Size.{Size}
 use Rattle.guest.specs.Walked.{blank, copy_of, sieved, Ready, Above}
 use Rattle.guest.specs.Measured.{Sized}

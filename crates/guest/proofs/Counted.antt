@@ -17,10 +17,10 @@ use Rattle.rules.specs.Events.{Event, events_in}
 use Rattle.rules.specs.declared.Token.{Token}
 use Rattle.rules.specs.declared.Token.TheVariants.{Item}
 use Rattle.rules.specs.declared.Kind.{Kind}
-use Rattle.rules.specs.Laws.Tests.{by_test}
-use Rattle.rules.specs.Laws.Tokens.{item_ahead}
-use Rattle.rules.specs.Laws.Events.{events_all}
-use Rattle.rules.specs.Laws.Kept.{only_none, only_then}
+use Rattle.rules.proofs.Laws.Tests.{by_test}
+use Rattle.rules.proofs.Laws.Tokens.{item_ahead}
+use Rattle.rules.proofs.Laws.Events.{events_all}
+use Rattle.rules.proofs.Laws.Kept.{only_none, only_then}
 use Rattle.guest.specs.declared.walk.Walk.{Walk}
 use Rattle.guest.specs.declared.walk.Named.{Named}
 use Rattle.guest.specs.declared.walk.Named.TheVariants.{At, Nothing}

@@ -19,10 +19,10 @@ use Rattle.rules.specs.declared.Token.{Token}
 use Rattle.rules.specs.declared.Token.TheVariants.{Item}
 use Rattle.rules.specs.declared.Kind.{Kind}
 use Rattle.rules.specs.declared.Kind.TheVariants.{Begin, EndNode, Prop, Nop}
-use Rattle.rules.specs.Laws.Tests.{never}
-use Rattle.rules.specs.Laws.Tokens.{item_ahead}
-use Rattle.rules.specs.Laws.Events.{events_all}
-use Rattle.rules.specs.Laws.Writer.{length_begin, length_end}
+use Rattle.rules.proofs.Laws.Tests.{never}
+use Rattle.rules.proofs.Laws.Tokens.{item_ahead}
+use Rattle.rules.proofs.Laws.Events.{events_all}
+use Rattle.rules.proofs.Laws.Writer.{length_begin, length_end}
 use Rattle.guest.specs.declared.walk.Walk.{Walk}
 use Rattle.guest.specs.declared.Size.{Size}
 use Rattle.guest.specs.Walked.{marked, copies, onward_of, heard, sift, blank, copy_of, Near}

@@ -21,10 +21,10 @@ use Rattle.rules.specs.Listing.{◌∈◌}
 use Rattle.rules.specs.declared.Token.{Token}
 use Rattle.rules.specs.declared.Token.TheVariants.{Item, End, Cut}
 use Rattle.rules.specs.declared.Kind.TheVariants.{Begin, EndNode, Prop, Nop}
-use Rattle.rules.specs.Laws.Tests.{by_test, or_nothing}
-use Rattle.rules.specs.Laws.Octets.{same_eq, nul_first, nul_cons}
-use Rattle.rules.specs.Laws.Writer.{length_property, name_here, name_past}
-use Rattle.rules.specs.Laws.Encoded.{nul_name}
+use Rattle.rules.proofs.Laws.Tests.{by_test, or_nothing}
+use Rattle.rules.proofs.Laws.Octets.{same_eq, nul_first, nul_cons}
+use Rattle.rules.proofs.Laws.Writer.{length_property, name_here, name_past}
+use Rattle.rules.proofs.Laws.Encoded.{nul_name}
 use Rattle.guest.specs.Walked.{marked, sift, blank, copy_of}
 use Rattle.guest.specs.Measured.{is_in, names_of, names_in, growth_of, structure_size}
 use Rattle.guest.proofs.Noted.{in_append, in_snoc}

@@ -16,9 +16,9 @@ use Rattle.rules.specs.Octets.{Bytes, nul_in, lay, same}
 use Rattle.rules.specs.Events.{string_at}
 use Rattle.rules.specs.declared.Kind.{Kind}
 use Rattle.rules.specs.declared.Kind.TheVariants.{Begin, EndNode, Prop, Nop}
-use Rattle.rules.specs.Laws.Tests.{by_test, never, or_cases, or_left, or_right, not_passed, or_nothing}
-use Rattle.rules.specs.Laws.Octets.{same_eq, nul_le, length_lay, lay_one_same, lay_one_other}
-use Rattle.rules.specs.Laws.Kept.{list_behind, stack_behind, only_none, only_one}
+use Rattle.rules.proofs.Laws.Tests.{by_test, never, or_cases, or_left, or_right, not_passed, or_nothing}
+use Rattle.rules.proofs.Laws.Octets.{same_eq, nul_le, length_lay, lay_one_same, lay_one_other}
+use Rattle.rules.proofs.Laws.Kept.{list_behind, stack_behind, only_none, only_one}
 use Rattle.guest.specs.declared.walk.Named.{Named}
 use Rattle.guest.specs.declared.walk.Named.TheVariants.{At, Nothing}
 use Rattle.guest.specs.declared.measured.Sum.{Sum}

@@ -9,8 +9,8 @@ use borrow.Author.Tests.{lt-ltb, le-ltb}
 use Rattle.rules.specs.Octets.{Bytes, padded, closed, part, lay}
 use Rattle.rules.specs.Writer.{property_bytes, name_offset, name_growth}
 use Rattle.rules.specs.Written.{Blocks}
-use Rattle.rules.specs.Laws.Octets.{length_part, part_part, length_lay, lay_put, take_put_before, drop_put, part_put}
-use Rattle.rules.specs.Laws.Writer.{length_closed, length_property}
+use Rattle.rules.proofs.Laws.Octets.{length_part, part_part, length_lay, lay_put, take_put_before, drop_put, part_put}
+use Rattle.rules.proofs.Laws.Writer.{length_closed, length_property}
 use Rattle.guest.specs.declared.Size.{Size}
 use Rattle.guest.specs.Laid.{blocks_in, with_property, Fits, Begun, Lays}
 

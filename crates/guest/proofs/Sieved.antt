@@ -18,8 +18,8 @@ use Rattle.rules.specs.declared.Token.{Token}
 use Rattle.rules.specs.declared.Token.TheVariants.{Item, End, Cut}
 use Rattle.rules.specs.declared.Kind.{Kind}
 use Rattle.rules.specs.declared.Kind.TheVariants.{Begin, EndNode, Prop, Nop}
-use Rattle.rules.specs.Laws.Tests.{by_test, never}
-use Rattle.rules.specs.Laws.Nested.{Nested, finished, root, child, holds, shuts, events_pass, events_nested}
+use Rattle.rules.proofs.Laws.Tests.{by_test, never}
+use Rattle.rules.proofs.Laws.Nested.{Nested, finished, root, child, holds, shuts, events_pass, events_nested}
 use Rattle.rules.specs.Laws.Sieve.{Upward}
 use Rattle.guest.specs.Walked.{marked, copies, next_of, skipped_of, heard, sift, blank, copy_of, sieved, Ready}
 use Rattle.guest.specs.Laid.{wrote}

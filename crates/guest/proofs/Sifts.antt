@@ -19,11 +19,12 @@ use Rattle.rules.specs.declared.Token.{Token}
 use Rattle.rules.specs.declared.Token.TheVariants.{Item, End, Cut}
 use Rattle.rules.specs.declared.Kind.{Kind}
 use Rattle.rules.specs.declared.Kind.TheVariants.{Begin, EndNode, Prop, Nop}
-use Rattle.rules.specs.Laws.Tests.{by_test}
-use Rattle.rules.specs.Laws.Octets.{length_part}
-use Rattle.rules.specs.Laws.Tokens.{if_by}
-use Rattle.rules.specs.Laws.Events.{events_at, events_all, events_item, events_end, events_cut}
-use Rattle.rules.specs.Laws.Writer.{length_begin, length_end, length_property}
+use Rattle.rules.proofs.Laws.Tests.{by_test}
+use Rattle.rules.proofs.Laws.Octets.{length_part}
+use Rattle.rules.proofs.Laws.Tokens.{if_by}
+use Rattle.rules.specs.Laws.Events.{events_at}
+use Rattle.rules.proofs.Laws.Events.{events_all, events_item, events_end, events_cut}
+use Rattle.rules.proofs.Laws.Writer.{length_begin, length_end, length_property}
 use Rattle.guest.specs.declared.walk.Named.TheVariants.{At, Nothing}
 use Rattle.guest.specs.Walked.{marked, copies, next_of, skipped_of, heard, sift}
 use Rattle.guest.specs.Measured.{names_of, names_in, prop_of, name_at, structure_size}

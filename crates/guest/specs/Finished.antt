@@ -6,8 +6,8 @@ use Rattle.rules.specs.Reservations.{entry_bytes, block}
 use Rattle.rules.specs.Events.{Event}
 use Rattle.rules.specs.Writer.{header_bytes, start_bytes}
 use Rattle.rules.specs.Written.{Blocks, write_events, blob_with, blob_of}
-use Rattle.rules.specs.Laws.Octets.{length_be32, length_zeros}
-use Rattle.rules.specs.Laws.Header.{length_header}
+use Rattle.rules.proofs.Laws.Octets.{length_be32, length_zeros}
+use Rattle.rules.proofs.Laws.Header.{length_header}
 use Rattle.guest.specs.Walked.{blank}
 
 reserved : block [] ≡ zeros 16

@@ -15,7 +15,7 @@ use Rattle.rules.specs.Events.{Event, opens, shape_judged, events_in}
 use Rattle.rules.specs.Tree.{Node, Tree, props_of, top, nodes_from, nodes_of}
 use Rattle.rules.specs.Copy.{sieve}
 use Rattle.rules.specs.Listing.{◌∈◌}
-use Rattle.rules.specs.Laws.Nested.{Nested, finished, root, child, holds, shuts, events_pass, events_nested}
+use Rattle.rules.proofs.Laws.Nested.{Nested, finished, root, child, holds, shuts, events_pass, events_nested}
 use Rattle.rules.specs.Laws.Sieve.{Upward}
 use Rattle.guest.specs.Walked.{marked, sieved, Ready}
 

@@ -3,7 +3,7 @@ use mathlib.Core.Path.{◌≡◌, refl, sym, ap, ◌∙◌}
 use lib.Dec.{eqb}
 use Rattle.rules.specs.Octets.{Bytes, if◌then◌else◌}
 use Rattle.rules.specs.Outcome.{Verdict, gives, refuses}
-use Rattle.rules.specs.Laws.Verdicts.{gives_refuses}
+use Rattle.rules.proofs.Laws.Verdicts.{gives_refuses}
 use Rattle.header.specs.declared.Head.{Head}
 use Rattle.header.specs.declared.Head.TheVariants.{Good, Bad}
 use Rattle.header.specs.declared.Refusal.{Refusal}

@@ -11,8 +11,8 @@ use Rattle.rules.specs.Octets.{Bytes, if◌then◌else◌, be32}
 use Rattle.rules.specs.Lists.{one_of}
 use Rattle.rules.specs.Outcome.{gives, refuses, Test, first, ◌then◌}
 use Rattle.rules.specs.Writer.{State, impossible, name_offset, test, strings_of, property_at, property_tests, phandle_name, phandle_judged}
-use Rattle.rules.specs.Laws.Octets.{length_be32}
-use Rattle.rules.specs.Laws.Writer.{length_property}
+use Rattle.rules.proofs.Laws.Octets.{length_be32}
+use Rattle.rules.proofs.Laws.Writer.{length_property}
 use Rattle.judge.specs.Meaning.{number_of}
 use Rattle.judge.specs.Judged.{place_of, sized, placed, phandle_placed}
 use Rattle.judge.specs.declared.Error.{Error}

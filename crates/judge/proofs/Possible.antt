@@ -8,7 +8,7 @@ use lib.Dec.{ltb, eqb}
 use borrow.Author.Tests.{ltb-false}
 use Rattle.rules.specs.Ceilings.{blob_ceiling, open_ceiling}
 use Rattle.rules.specs.Writer.{State, room, impossible}
-use Rattle.rules.specs.Laws.Tests.{or_false}
+use Rattle.rules.proofs.Laws.Tests.{or_false}
 
 -- tests joined by `||`
 abbrev joined : Bool → List Bool → Bool

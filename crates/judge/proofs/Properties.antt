@@ -8,8 +8,8 @@ use lib.Seq.{length-take-le}
 use Rattle.rules.specs.Octets.{Bytes, if◌then◌else◌}
 use Rattle.rules.specs.Outcome.{gives, refuses, Verdict, passes, ◌then◌}
 use Rattle.rules.specs.Writer.{State, name_offset, name_growth, strings_of, growth}
-use Rattle.rules.specs.Laws.Tests.{by_test}
-use Rattle.rules.specs.Laws.Writer.{length_closed}
+use Rattle.rules.proofs.Laws.Tests.{by_test}
+use Rattle.rules.proofs.Laws.Writer.{length_closed}
 use Rattle.judge.specs.Judged.{grown}
 
 -- ---- a judgement, and what it gives

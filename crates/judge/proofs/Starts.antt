@@ -10,8 +10,8 @@ use lib.Seq.{take-suc, length-take-le}
 use Rattle.rules.specs.Octets.{Bytes, be32, be64, zeros}
 use Rattle.rules.specs.Reservations.{Entry, entry_bytes, block}
 use Rattle.rules.specs.Writer.{start_bytes}
-use Rattle.rules.specs.Laws.Octets.{length_zeros}
-use Rattle.rules.specs.Laws.Header.{length_entries}
+use Rattle.rules.proofs.Laws.Octets.{length_zeros}
+use Rattle.rules.proofs.Laws.Header.{length_entries}
 use Rattle.reservation.specs.declared.Reservation.{Reservation}
 use Rattle.reservation.specs.Made.{entry_of, entries_of}
 

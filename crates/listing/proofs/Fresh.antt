@@ -8,8 +8,8 @@ use Prim.Native.Nat.{ℕ, zero, suc}
 use lib.Dec.{eqb}
 use Rattle.rules.specs.Lists.{one_of, fresh}
 use Rattle.rules.specs.Listing.{◌∈◌, work, gather}
-use Rattle.rules.specs.Laws.Tests.{by_test, both_ways}
-use Rattle.rules.specs.Laws.Lists.{one_of_mem, mem_one_of, fresh_known, fresh_new}
+use Rattle.rules.proofs.Laws.Tests.{by_test, both_ways}
+use Rattle.rules.proofs.Laws.Lists.{one_of_mem, mem_one_of, fresh_known, fresh_new}
 
 -- the same numbers, in any order
 abbrev pub Alike : (a b : List ℕ) → Type 0

@@ -15,10 +15,12 @@ use Rattle.rules.specs.Lists.{one_of, keep, fresh}
 use Rattle.rules.specs.Tree.{Tree, below}
 use Rattle.rules.specs.Listing.{◌∈◌, gather}
 use Rattle.rules.specs.Space.{marks_at, stack_at, list_in, stack_in}
-use Rattle.rules.specs.Laws.Tests.{by_test}
-use Rattle.rules.specs.Laws.Lists.{none, keep_yes, keep_no, mem_at}
+use Rattle.rules.proofs.Laws.Tests.{by_test}
+use Rattle.rules.specs.Laws.Lists.{none}
+use Rattle.rules.proofs.Laws.Lists.{keep_yes, keep_no, mem_at}
 use Rattle.rules.specs.Laws.Tabled.{tree_in}
-use Rattle.rules.specs.Laws.Kept.{Only, tree_alike, only_none, only_then, only_wide, only_zeros, only_drop, zeros_at, marks_behind, list_behind, stack_behind, names_behind, names_inside}
+use Rattle.rules.specs.Laws.Kept.{Only}
+use Rattle.rules.proofs.Laws.Kept.{tree_alike, only_none, only_then, only_wide, only_zeros, only_drop, zeros_at, marks_behind, list_behind, stack_behind, names_behind, names_inside}
 use Rattle.listing.specs.State.{Apart, Marked, Gains}
 use Rattle.listing.specs.Given.{below_in, Gathers}
 use Rattle.listing.proofs.Fresh.{fresh_none, fresh_append, gather_none, gather_turn}

@@ -17,13 +17,16 @@ use Rattle.rules.specs.Tree.{Tree, frame, below, path}
 use Rattle.rules.specs.References.{edition1, targets}
 use Rattle.rules.specs.Listing.{◌∈◌, nodes_below, gather, given_nodes, starts, work, found, reached_list, within, listed}
 use Rattle.rules.specs.Space.{stack_at, list_in, stack_in}
-use Rattle.rules.specs.Laws.Octets.{length_lay, lay_put, part_put}
-use Rattle.rules.specs.Laws.Lists.{Distinct, none, more, mem_one_of, not_one_of, fresh_known, fresh_new}
-use Rattle.rules.specs.Laws.Tabled.{tree_in, tree_length}
-use Rattle.rules.specs.Laws.Order.{insert_length}
-use Rattle.rules.specs.Laws.Listing.{starts_of_lem, of_starts}
-use Rattle.rules.specs.Laws.Starts.{start_small, below_starts}
-use Rattle.rules.specs.Laws.Kept.{Kept, lay_alike, lay_behind, tree_alike, only_then, only_kept, marks_behind, list_behind, stack_behind, names_behind, names_inside}
+use Rattle.rules.proofs.Laws.Octets.{length_lay, lay_put, part_put}
+use Rattle.rules.specs.Laws.Lists.{Distinct, none, more}
+use Rattle.rules.proofs.Laws.Lists.{mem_one_of, not_one_of, fresh_known, fresh_new}
+use Rattle.rules.specs.Laws.Tabled.{tree_in}
+use Rattle.rules.proofs.Laws.Tabled.{tree_length}
+use Rattle.rules.proofs.Laws.Order.{insert_length}
+use Rattle.rules.proofs.Laws.Listing.{starts_of_lem, of_starts}
+use Rattle.rules.proofs.Laws.Starts.{start_small, below_starts}
+use Rattle.rules.specs.Laws.Kept.{Kept}
+use Rattle.rules.proofs.Laws.Kept.{lay_alike, lay_behind, tree_alike, only_then, only_kept, marks_behind, list_behind, stack_behind, names_behind, names_inside}
 use Rattle.order.specs.Starts.{Asked, Started}
 use Rattle.listing.specs.State.{Apart, Piled, Gains}
 use Rattle.listing.specs.Given.{below_in, with_below, Gathers}

@@ -14,10 +14,11 @@ use Rattle.rules.specs.Octets.{lay}
 use Rattle.rules.specs.Lists.{one_of, fresh}
 use Rattle.rules.specs.Listing.{◌∈◌}
 use Rattle.rules.specs.Space.{marks_at, stack_at, list_in, stack_in}
-use Rattle.rules.specs.Laws.Tests.{by_test, both_ways}
-use Rattle.rules.specs.Laws.Octets.{length_lay, lay_one_same, lay_one_other}
-use Rattle.rules.specs.Laws.Lists.{Distinct, none, more, distinct_append, distinct_below, one_of_mem, mem_one_of, one_of_not, fresh_known}
-use Rattle.rules.specs.Laws.Kept.{list_behind, stack_behind, names_behind, names_inside, only_none, only_then}
+use Rattle.rules.proofs.Laws.Tests.{by_test, both_ways}
+use Rattle.rules.proofs.Laws.Octets.{length_lay, lay_one_same, lay_one_other}
+use Rattle.rules.specs.Laws.Lists.{Distinct, none, more}
+use Rattle.rules.proofs.Laws.Lists.{distinct_append, distinct_below, one_of_mem, mem_one_of, one_of_not, fresh_known}
+use Rattle.rules.proofs.Laws.Kept.{list_behind, stack_behind, names_behind, names_inside, only_none, only_then}
 use Rattle.listing.specs.State.{entered, mark, Apart, Marked, Piled, Gains, Stacks}
 use Rattle.listing.proofs.Fresh.{fresh_none, fresh_last, fresh_append}
 use Rattle.listing.proofs.Parts.{list_length_lem, list_mark, stack_mark, apart_mark, list_list, stack_list, marks_list, apart_list, list_stack, stack_stack, marks_stack, apart_stack}

@@ -9,8 +9,8 @@ use lib.Seq.{drop-set-lt, drop-set-add, take-set-le, take-suc-set, take-suc, get
 use Rattle.rules.specs.Ceilings.{node_ceiling, work_words}
 use Rattle.rules.specs.Octets.{lay}
 use Rattle.rules.specs.Space.{marks_at, list_at, stack_at, list_in, stack_in}
-use Rattle.rules.specs.Laws.Octets.{lay_one, lay_one_other}
-use Rattle.rules.specs.Laws.Kept.{only_one, marks_behind, list_behind, stack_behind, names_behind, names_inside}
+use Rattle.rules.proofs.Laws.Octets.{lay_one, lay_one_other}
+use Rattle.rules.proofs.Laws.Kept.{only_one, marks_behind, list_behind, stack_behind, names_behind, names_inside}
 use Rattle.listing.specs.State.{Apart}
 
 -- ---- any part

@@ -16,10 +16,10 @@ use Rattle.rules.specs.Lists.{keep}
 use Rattle.rules.specs.Tree.{Tree, frame}
 use Rattle.rules.specs.Listing.{within}
 use Rattle.rules.specs.Space.{list_at, list_in}
-use Rattle.rules.specs.Laws.Octets.{lay_one_other}
-use Rattle.rules.specs.Laws.Lists.{keep_yes, keep_no}
+use Rattle.rules.proofs.Laws.Octets.{lay_one_other}
+use Rattle.rules.proofs.Laws.Lists.{keep_yes, keep_no}
 use Rattle.rules.specs.Laws.Tabled.{tree_in}
-use Rattle.rules.specs.Laws.Kept.{tree_alike, only_none, only_then}
+use Rattle.rules.proofs.Laws.Kept.{tree_alike, only_none, only_then}
 use Rattle.listing.specs.Sift.{spared, Sifts, Sifted}
 use Rattle.listing.proofs.Parts.{list_length_lem, list_list, apart_list}
 

@@ -16,11 +16,13 @@ use Rattle.rules.specs.Events.{Property, string_at}
 use Rattle.rules.specs.Tree.{Node, Tree, node, props_of}
 use Rattle.rules.specs.References.{Rules, Reference, is_reference, cell_rows, cells_in, edition1, lookup, cell_count, target, scan, references_of, targets_in, targets}
 use Rattle.rules.specs.Listing.{◌∈◌}
-use Rattle.rules.specs.Laws.Tests.{by_test}
-use Rattle.rules.specs.Laws.References.{scan_from_mem, references_yes, references_no}
+use Rattle.rules.proofs.Laws.Tests.{by_test}
+use Rattle.rules.proofs.Laws.References.{scan_from_mem, references_yes, references_no}
 use Rattle.rules.specs.Laws.Events.{events_at}
-use Rattle.rules.specs.Laws.Tabled.{tree_in, node_in_lem, props_at, begin_of, look_in, count_named, count_named_lem, look_small}
-use Rattle.rules.specs.Laws.Kept.{Alike, Kept, tree_alike, look_alike}
+use Rattle.rules.specs.Laws.Tabled.{tree_in, props_at, begin_of, look_in, count_named}
+use Rattle.rules.proofs.Laws.Tabled.{node_in_lem, count_named_lem, look_small}
+use Rattle.rules.specs.Laws.Kept.{Alike, Kept}
+use Rattle.rules.proofs.Laws.Kept.{tree_alike, look_alike}
 use Rattle.tokens.specs.declared.Property as next
 use Rattle.tokens.specs.declared.Property.TheVariants.{Here, Missing}
 use Rattle.tokens.specs.Properties.{behind_at, property_at}

@@ -11,7 +11,7 @@ use Rattle.rules.specs.References.{edition1, targets}
 use Rattle.rules.specs.Listing.{work}
 use Rattle.rules.specs.Space.{stack_at, list_in, stack_in}
 use Rattle.rules.specs.Laws.Tabled.{tree_in}
-use Rattle.rules.specs.Laws.Kept.{tree_alike, only_then}
+use Rattle.rules.proofs.Laws.Kept.{tree_alike, only_then}
 use Rattle.listing.specs.State.{Apart, Piled, Stacks}
 use Rattle.listing.specs.Walk.{work_from, Walked}
 use Rattle.listing.proofs.Fresh.{work_none, work_turn}

@@ -12,12 +12,13 @@ use borrow.Author.Tests.{eqb-true, eqb-false}
 use Rattle.rules.specs.Octets.{Bytes, part, put, lay, before}
 use Rattle.rules.specs.Tree.{Tree, path}
 use Rattle.rules.specs.Space.{stack_at}
-use Rattle.rules.specs.Laws.Tests.{by_test, by_le, never, not_passed}
-use Rattle.rules.specs.Laws.Octets.{lay_put, lay_past, lay_nil, lay_one, lay_lay, length_lay, put_inside}
-use Rattle.rules.specs.Laws.Order.{before_trans}
-use Rattle.rules.specs.Laws.Kept.{lay_before}
+use Rattle.rules.proofs.Laws.Tests.{by_test, by_le, never, not_passed}
+use Rattle.rules.proofs.Laws.Octets.{lay_put, lay_past, lay_nil, lay_one, lay_lay, length_lay, put_inside}
+use Rattle.rules.proofs.Laws.Order.{before_trans}
+use Rattle.rules.proofs.Laws.Kept.{lay_before}
 use Rattle.rules.specs.Laws.Paths.{Formed}
-use Rattle.rules.specs.Laws.Tabled.{tree_length, tree_of}
+use Rattle.rules.specs.Laws.Tabled.{tree_of}
+use Rattle.rules.proofs.Laws.Tabled.{tree_length}
 use Rattle.paths.specs.Order.{Orders}
 use Rattle.order.specs.Region.{nth_node, Ordered, Between, Halves, inserted}
 

@@ -11,7 +11,7 @@ use borrow.Author.Tests.{eq-eqb, ne_eqb}
 use Rattle.rules.specs.Lists.{any}
 use Rattle.rules.specs.Tree.{Frame}
 use Rattle.rules.specs.Listing.{within}
-use Rattle.rules.specs.Laws.Tests.{or_left, or_right}
+use Rattle.rules.proofs.Laws.Tests.{or_left, or_right}
 
 module _ (f : Frame) (l : List ℕ) (x k : ℕ) where
   pub within_end : length l ≤ k → within f (drop k l) x ≡ false

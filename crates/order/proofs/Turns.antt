@@ -14,13 +14,14 @@ use Rattle.rules.specs.Blob.{Block}
 use Rattle.rules.specs.Tree.{Tree, frame, path, numbers_from}
 use Rattle.rules.specs.Listing.{◌∈◌, starts, within}
 use Rattle.rules.specs.Space.{table_words, stack_at}
-use Rattle.rules.specs.Laws.Lists.{keep_of, keep_yes, keep_no, numbers_mem, mem_at}
-use Rattle.rules.specs.Laws.Order.{Ascending, sort_of, insert_at, insert_length, ascending_at}
+use Rattle.rules.proofs.Laws.Lists.{keep_of, keep_yes, keep_no, numbers_mem, mem_at}
+use Rattle.rules.proofs.Laws.Order.{Ascending, sort_of, insert_at, insert_length, ascending_at}
 use Rattle.rules.specs.Laws.Paths.{Formed}
-use Rattle.rules.specs.Laws.Starts.{sorted_ascending, starts_within}
-use Rattle.rules.specs.Laws.Tabled.{tree_in, tree_length}
-use Rattle.rules.specs.Laws.Octets.{lay_nil}
-use Rattle.rules.specs.Laws.Kept.{tree_alike, lay_alike, marks_behind, list_behind, stack_behind, names_behind, names_inside}
+use Rattle.rules.proofs.Laws.Starts.{sorted_ascending, starts_within}
+use Rattle.rules.specs.Laws.Tabled.{tree_in}
+use Rattle.rules.proofs.Laws.Tabled.{tree_length}
+use Rattle.rules.proofs.Laws.Octets.{lay_nil}
+use Rattle.rules.proofs.Laws.Kept.{tree_alike, lay_alike, marks_behind, list_behind, stack_behind, names_behind, names_inside}
 use Rattle.order.specs.Region.{nth_node, Ordered, Between, inserted}
 use Rattle.order.specs.Starts.{Asked, starts_from, Placed, Started}
 use Rattle.order.proofs.Regions.{laid_at, laid_insert}

@@ -10,8 +10,9 @@ use Rattle.rules.specs.Listing.{◌∈◌, starts, within}
 use Rattle.rules.specs.Derivation.{Request, asked, configured_judged}
 use Rattle.rules.specs.Space.{stack_at}
 use Rattle.rules.specs.Laws.Lists.{Distinct}
-use Rattle.rules.specs.Laws.Formed.{conf_distinct, conf_small}
-use Rattle.rules.specs.Laws.Tabled.{tree_in, tree_length}
+use Rattle.rules.proofs.Laws.Formed.{conf_distinct, conf_small}
+use Rattle.rules.specs.Laws.Tabled.{tree_in}
+use Rattle.rules.proofs.Laws.Tabled.{tree_length}
 use Rattle.rules.specs.Laws.Kept.{Kept}
 
 -- the work space keeps an accepted tree's table, and the configured nodes are nodes of it, none twice

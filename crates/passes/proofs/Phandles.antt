@@ -21,14 +21,14 @@ use Rattle.rules.specs.declared.Token.TheVariants.{Item}
 use Rattle.rules.specs.declared.Kind.{Kind}
 use Rattle.rules.specs.declared.Kind.TheVariants.{Begin, EndNode, Prop, Nop}
 use Rattle.rules.specs.contracts.Token as tokened
-use Rattle.rules.specs.Laws.Tests.{by_test}
+use Rattle.rules.proofs.Laws.Tests.{by_test}
 use Rattle.passes.specs.declared.shared.Row.{Row}
 use Rattle.passes.specs.declared.shared.Row.TheVariants.{Go, Fault}
 use Rattle.passes.specs.Rows.{row_has, row_below, row_given, rows_from, passed, row_give, row_prop, row_turn}
 use Rattle.rules.specs.Laws.Events.{events_at}
 use Rattle.doubled.specs.Passes.{nodes_in}
 use Rattle.doubled.proofs.Turns.{events_all, events_item, events_stop}
-use Rattle.rules.specs.Laws.Passes.{phandle_here, phandle_past}
+use Rattle.rules.proofs.Laws.Passes.{phandle_here, phandle_past}
 
 -- ---- a search that counts up
 

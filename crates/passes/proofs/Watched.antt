@@ -21,8 +21,8 @@ use Rattle.rules.specs.declared.Token.TheVariants.{Item}
 use Rattle.rules.specs.contracts.Token as tokened
 use Rattle.rules.specs.declared.Kind.{Kind}
 use Rattle.rules.specs.declared.Kind.TheVariants.{Begin, EndNode, Prop, Nop}
-use Rattle.rules.specs.Laws.Tests.{and_true, false_or}
-use Rattle.rules.specs.Laws.Octets.{ne_same}
+use Rattle.rules.proofs.Laws.Tests.{and_true, false_or}
+use Rattle.rules.proofs.Laws.Octets.{ne_same}
 use Rattle.passes.specs.declared.cells.Seen.{Seen}
 use Rattle.passes.specs.declared.cells.Seen.TheVariants.{Outside, Within, Given}
 use Rattle.passes.specs.declared.cells.Turn.{Turn}

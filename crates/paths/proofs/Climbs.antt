@@ -13,7 +13,8 @@ use Rattle.rules.specs.Octets.{Bytes, same}
 use Rattle.rules.specs.Tree.{Tree, node, climb, spell, path, frame, numbers_from}
 use Rattle.rules.specs.Derivation.{node_among, node_at}
 use Rattle.rules.specs.Blob.{Block}
-use Rattle.rules.specs.Laws.Tabled.{tree_in, tree_length}
+use Rattle.rules.specs.Laws.Tabled.{tree_in}
+use Rattle.rules.proofs.Laws.Tabled.{tree_length}
 
 module _ (t : Tree) where
   pub climb_none : (k p m : ℕ) → k ≤ 0 → climb t k p m ≡ false

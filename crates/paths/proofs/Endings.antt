@@ -9,8 +9,8 @@ use lib.ListN.{length, take, drop, length-append, take-append-drop}
 use lib.Seq.{length-take-le, take_at, take-take, take-add, drop_at}
 use borrow.Author.Tests.{eq-eqb, ne_eqb}
 use Rattle.rules.specs.Octets.{Bytes, byte_at, same, ends}
-use Rattle.rules.specs.Laws.Tests.{by_le, never, both_ways, and_true, true_and}
-use Rattle.rules.specs.Laws.Octets.{same_eq, eq_same, ends_short, ends_at, ends_append, drop_taken}
+use Rattle.rules.proofs.Laws.Tests.{by_le, never, both_ways, and_true, true_and}
+use Rattle.rules.proofs.Laws.Octets.{same_eq, eq_same, ends_short, ends_at, ends_append, drop_taken}
 
 pub ends_length : (s q : Bytes) → ends s q ≡ true → length s ≤ length q
 ends_length s q h = by_le (length s) (length q) (λ k. k) (λ k. never (ends s q) h (ends_short s q k))

@@ -12,7 +12,7 @@ use lib.Seq.{drop-cons}
 use borrow.Author.Tests.{eqb-true, eqb-false, eq-eqb, ne_eqb, lt-ltb, le-ltb}
 use Rattle.rules.specs.Octets.{Bytes, byte_at, before}
 use Rattle.rules.specs.Listing.{◌∈◌}
-use Rattle.rules.specs.Laws.Tests.{by_test, or_nothing}
+use Rattle.rules.proofs.Laws.Tests.{by_test, or_nothing}
 use Rattle.paths.specs.Order.{slash}
 
 pub before_none : (s : Bytes) → before s [] ≡ false

@@ -9,9 +9,10 @@ use Rattle.rules.specs.Octets.{Bytes, nul_in, closed, put, lay}
 use Rattle.rules.specs.Blob.{Block}
 use Rattle.rules.specs.Events.{string_at}
 use Rattle.rules.specs.Tree.{Tree, Node, node, spell, path}
-use Rattle.rules.specs.Laws.Tests.{by_le}
-use Rattle.rules.specs.Laws.Octets.{length_lay, lay_past, lay_nil, lay_lay, put_before, put_inside, put_behind}
-use Rattle.rules.specs.Laws.Tabled.{tree_in, node_in_lem, node_out}
+use Rattle.rules.proofs.Laws.Tests.{by_le}
+use Rattle.rules.proofs.Laws.Octets.{length_lay, lay_past, lay_nil, lay_lay, put_before, put_inside, put_behind}
+use Rattle.rules.specs.Laws.Tabled.{tree_in}
+use Rattle.rules.proofs.Laws.Tabled.{node_in_lem, node_out}
 use Rattle.paths.proofs.Climbs.{spell_root, spell_step, path_other}
 
 -- ---- two that touch, the second laid first

@@ -10,7 +10,8 @@ use lib.ListN.{length}
 use borrow.Author.Tests.{eq-eqb, ne_eqb, lt-ltb}
 use Rattle.rules.specs.Octets.{Bytes, if◌then◌else◌, before}
 use Rattle.rules.specs.Tree.{Tree, node, spell, path}
-use Rattle.rules.specs.Laws.Paths.{Formed, trail, trail_step, by_parent}
+use Rattle.rules.specs.Laws.Paths.{Formed, trail}
+use Rattle.rules.proofs.Laws.Paths.{trail_step, by_parent}
 use Rattle.paths.specs.Order.{slash, Behind, Way, Parted}
 use Rattle.paths.proofs.Names.{before_front, before_none, before_nil, before_same, Follows, names_order}
 

@@ -14,10 +14,12 @@ use Rattle.rules.specs.Lists.{one_of}
 use Rattle.rules.specs.Tree.{Tree, node, frame}
 use Rattle.rules.specs.Copy.{null, is_cpus, cpu_child, stranger}
 use Rattle.rules.specs.Space.{marks_at, stack_at, names_at, list_in}
-use Rattle.rules.specs.Laws.Tests.{by_test}
-use Rattle.rules.specs.Laws.Octets.{lay_one_same, lay_one_other, length_lay}
-use Rattle.rules.specs.Laws.Kept.{Kept, only_then, only_one, only_tree, marks_behind, list_behind, stack_behind, names_behind, names_room}
-use Rattle.rules.specs.Laws.Tabled.{tree_in, tree_length}
+use Rattle.rules.proofs.Laws.Tests.{by_test}
+use Rattle.rules.proofs.Laws.Octets.{lay_one_same, lay_one_other, length_lay}
+use Rattle.rules.specs.Laws.Kept.{Kept}
+use Rattle.rules.proofs.Laws.Kept.{only_then, only_one, only_tree, marks_behind, list_behind, stack_behind, names_behind, names_room}
+use Rattle.rules.specs.Laws.Tabled.{tree_in}
+use Rattle.rules.proofs.Laws.Tabled.{tree_length}
 use Rattle.picks.specs.Marks.{marked, Noted}
 use Rattle.picks.specs.Codes.{next, taken, code_of, code_root, code_step, taken_picked}
 use Rattle.picks.specs.Turns.{parent_code, code_at, mark_at, turned, pick_of, Coded, Picks}

@@ -16,11 +16,13 @@ use Rattle.rules.specs.Blob.{Block}
 use Rattle.rules.specs.Lists.{one_of, any}
 use Rattle.rules.specs.Tree.{Node, Tree, node, below, climb}
 use Rattle.rules.specs.Space.{table_words, marks_at, list_at, names_at, list_in}
-use Rattle.rules.specs.Laws.Tests.{by_test, eqb_sym, or_nothing, or_comm}
-use Rattle.rules.specs.Laws.Octets.{lay_one_same, lay_one_other}
-use Rattle.rules.specs.Laws.Lists.{one_any, any_last}
-use Rattle.rules.specs.Laws.Kept.{Only, only_none, only_then, only_wide, only_one, only_zeros, only_tree, only_kept, zeros_at, marks_behind, list_behind, stack_behind, names_behind, names_room}
-use Rattle.rules.specs.Laws.Tabled.{tree_in, tree_length, node_in_lem}
+use Rattle.rules.proofs.Laws.Tests.{by_test, eqb_sym, or_nothing, or_comm}
+use Rattle.rules.proofs.Laws.Octets.{lay_one_same, lay_one_other}
+use Rattle.rules.proofs.Laws.Lists.{one_any, any_last}
+use Rattle.rules.specs.Laws.Kept.{Only}
+use Rattle.rules.proofs.Laws.Kept.{only_none, only_then, only_wide, only_one, only_zeros, only_tree, only_kept, zeros_at, marks_behind, list_behind, stack_behind, names_behind, names_room}
+use Rattle.rules.specs.Laws.Tabled.{tree_in}
+use Rattle.rules.proofs.Laws.Tabled.{tree_length, node_in_lem}
 use Rattle.picks.specs.Marks.{marked, Listed, Keeps, Unmarked, Noted}
 
 -- ---- one word

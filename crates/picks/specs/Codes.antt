@@ -9,11 +9,11 @@ use Rattle.rules.specs.Lists.{one_of, any, keep}
 use Rattle.rules.specs.Tree.{Tree, node, below, Frame, frame, numbers}
 use Rattle.rules.specs.Listing.{within}
 use Rattle.rules.specs.Copy.{Asked, near, null, is_cpus, picked}
-use Rattle.rules.specs.Laws.Tests.{and_none}
-use Rattle.rules.specs.Laws.Lists.{one_keep}
+use Rattle.rules.proofs.Laws.Tests.{and_none}
+use Rattle.rules.proofs.Laws.Lists.{one_keep}
 use Rattle.rules.specs.Laws.Paths.{Formed}
-use Rattle.rules.specs.Laws.Listing.{within_root, within_step}
-use Rattle.rules.specs.Laws.Copy.{near_split, cpus_root, is_cpus_up}
+use Rattle.rules.proofs.Laws.Listing.{within_root, within_step}
+use Rattle.rules.proofs.Laws.Copy.{near_split, cpus_root, is_cpus_up}
 
 abbrev pub code : (none inside strange out listed : Bool) → ℕ
 code none inside strange out listed =

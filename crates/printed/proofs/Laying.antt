@@ -6,8 +6,8 @@ use native.Mathlib.Nat.{zero-add}
 use native.Mathlib.Omega.{arith}
 use lib.ListN.{length, set, length-append}
 use Rattle.rules.specs.Octets.{Bytes, byte_at, lay}
-use Rattle.rules.specs.Laws.Tests.{by_le}
-use Rattle.rules.specs.Laws.Octets.{length_lay, lay_past, lay_more, lay_lay, lay_paste, laid, laid_more}
+use Rattle.rules.proofs.Laws.Tests.{by_le}
+use Rattle.rules.proofs.Laws.Octets.{length_lay, lay_past, lay_more, lay_lay, lay_paste, laid, laid_more}
 use Rattle.printed.specs.Text.{in_line, in_lines, Laid, length_lines, byte_lines}
 
 module _ {old mid new : Bytes} {at next last : ℕ} (xs ys : Bytes) (p : Laid old at xs mid next) (q : Laid mid next ys new last) where

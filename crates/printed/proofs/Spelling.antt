@@ -9,7 +9,7 @@ use lib.ListN.{length, take, drop, set, length-set, drop_of_length-le}
 use lib.Seq.{length-take-le, drop_at, set_split}
 use Rattle.rules.specs.Octets.{Bytes}
 use Rattle.rules.specs.Program.{decimal}
-use Rattle.rules.specs.Laws.Program.{digits, digits_all, digits_last, digits_more}
+use Rattle.rules.proofs.Laws.Program.{digits, digits_all, digits_last, digits_more}
 
 -- of n, `rest` is still to be spelled, from the place `first` down
 pub record Spelling (n rest : ℕ) (text : Bytes) (first : ℕ) : Type 0 where

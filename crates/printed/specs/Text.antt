@@ -5,8 +5,8 @@ use Rattle.std.proofs.Common.{ap, ap₂, ◌∙◌, append_assoc, pow-suc, arith
 use Rattle.rules.specs.Octets.{Bytes, byte_at, ascii, lay}
 use Rattle.rules.specs.Listing.{paths_bytes}
 use Rattle.rules.specs.Program.{decimal, newline, printed_paths, printed_answer, printed_refusal}
-use Rattle.rules.specs.Laws.Tests.{by_le}
-use Rattle.rules.specs.Laws.Program.{digits, digits_all, digits_last, digits_more}
+use Rattle.rules.proofs.Laws.Tests.{by_le}
+use Rattle.rules.proofs.Laws.Program.{digits, digits_all, digits_last, digits_more}
 
 unfoldable pub in_line : ℕ → ℕ
 in_line b = elim (eqb b 0) [ true ↦ 10 | false ↦ b ]

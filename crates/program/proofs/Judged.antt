@@ -11,7 +11,7 @@ use Rattle.rules.specs.Octets.{Bytes, lay}
 use Rattle.rules.specs.Outcome.{refuses, passes, ◌then◌}
 use Rattle.rules.specs.References.{edition1}
 use Rattle.rules.specs.Program.{input_judged, lines_judged, lines_of, host_judged, Printed, printed, printed_refusal}
-use Rattle.rules.specs.Laws.Verdicts.{then_passes, one, one_passes}
+use Rattle.rules.proofs.Laws.Verdicts.{then_passes, one, one_passes}
 use Rattle.printed.specs.Text.{refusal_short}
 use Rattle.request.specs.Answers.{meaning}
 use Rattle.request.specs.declared.Judged.{Judged}

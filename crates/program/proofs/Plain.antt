@@ -14,9 +14,9 @@ use Rattle.rules.specs.Reader.{events_read, tree_read, blob_judged}
 use Rattle.rules.specs.References.{Rules}
 use Rattle.rules.specs.Listing.{◌∈◌, listed}
 use Rattle.rules.specs.Derivation.{Request, asked, listed_paths}
-use Rattle.rules.specs.Laws.Verdicts.{then_passes}
-use Rattle.rules.specs.Laws.Nested.{events_pass, events_nested}
-use Rattle.rules.specs.Laws.ReadBack.{Clean, nested_clean}
+use Rattle.rules.proofs.Laws.Verdicts.{then_passes}
+use Rattle.rules.proofs.Laws.Nested.{events_pass, events_nested}
+use Rattle.rules.proofs.Laws.ReadBack.{Clean, nested_clean}
 use Rattle.printed.specs.Text.{Plain, AllPlain, none, more}
 
 -- ---- names

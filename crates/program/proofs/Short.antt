@@ -12,10 +12,10 @@ use Rattle.rules.specs.Octets.{Bytes, has_nul, closed, ascii, begins}
 use Rattle.rules.specs.Lists.{every}
 use Rattle.rules.specs.Program.{line_end, Line, lines_from, lines_of, Said, decimal_after, digit, decimal_said, line_said, configured_by, excluded_by, named_by, configured_in, excluded_in, ids_in}
 use Rattle.rules.specs.Program as program
-use Rattle.rules.specs.Laws.Tests.{and_true}
-use Rattle.rules.specs.Laws.Tokens.{if_by}
-use Rattle.rules.specs.Laws.Octets.{begins_length, to_le}
-use Rattle.rules.specs.Laws.Program.{configured_split, excluded_split, named_split}
+use Rattle.rules.proofs.Laws.Tests.{and_true}
+use Rattle.rules.proofs.Laws.Tokens.{if_by}
+use Rattle.rules.proofs.Laws.Octets.{begins_length, to_le}
+use Rattle.rules.proofs.Laws.Program.{configured_split, excluded_split, named_split}
 
 -- ---- a line
 

@@ -14,9 +14,9 @@ use Rattle.rules.specs.Reader.{tree_read, blob_judged, space_judged}
 use Rattle.rules.specs.References.{Rules, edition1}
 use Rattle.rules.specs.Derivation.{Request, Derived, derive, derive_list, derive_guest, listed_paths, list_of, guest_of, request_judged, room_judged}
 use Rattle.rules.specs.Program.{lines_of, configured_in, excluded_in, ids_in, input_judged, host_judged, request_in, Printed, printed, printed_answer, printed_refusal}
-use Rattle.rules.specs.Laws.Tests.{by_test}
-use Rattle.rules.specs.Laws.Verdicts.{gives_refuses, then_passes, passes_then}
-use Rattle.rules.specs.Laws.Octets.{length_lay, lay_put}
+use Rattle.rules.proofs.Laws.Tests.{by_test}
+use Rattle.rules.proofs.Laws.Verdicts.{gives_refuses, then_passes, passes_then}
+use Rattle.rules.proofs.Laws.Octets.{length_lay, lay_put}
 use Rattle.printed.specs.Text.{answer_text, answer_printed}
 use Rattle.derive.specs.Answers.{number_of, place_of, meaning}
 use Rattle.derive.specs.declared.Answer.{Answer}

@@ -10,7 +10,7 @@ use Rattle.rules.specs.References.{Rules, edition1}
 use Rattle.rules.specs.Derivation.{derive}
 use Rattle.rules.specs.Derivation as derivation
 use Rattle.rules.specs.Program.{input_judged, host_judged, request_in, Printed, printed, printed_refusal, program_outcome, program}
-use Rattle.rules.specs.Laws.Octets.{take_put, lay_put}
+use Rattle.rules.proofs.Laws.Octets.{take_put, lay_put}
 use Rattle.printed.specs.Text.{answer_text}
 use Rattle.derive.specs.Answers.{number_of, place_of}
 use Rattle.derive.specs.declared.Answer.{Answer}

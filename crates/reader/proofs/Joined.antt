@@ -12,10 +12,11 @@ use Rattle.rules.specs.Blob.{header_in, header_judged, Block, block_in, block_of
 use Rattle.rules.specs.Events.{shape_judged}
 use Rattle.rules.specs.Tree.{doubled_judged, words_judged, shared_judged}
 use Rattle.rules.specs.Reader.{tree_read, events_read, blob_judged, space_judged, read, rows_of, space_of, table_of, read_work}
-use Rattle.rules.specs.Laws.Verdicts.{then_passes, passes_then, then_then, then_refuses}
-use Rattle.rules.specs.Laws.Blob.{Inside, header_inside}
-use Rattle.rules.specs.Laws.Reader.{starts_of, starts_length, table_fits, space_length, space_space, space_clear}
-use Rattle.rules.specs.Laws.Table.{rows_length, nodes_few, read_table}
+use Rattle.rules.proofs.Laws.Verdicts.{then_passes, passes_then, then_then, then_refuses}
+use Rattle.rules.proofs.Laws.Blob.{Inside, header_inside}
+use Rattle.rules.specs.Laws.Reader.{starts_of}
+use Rattle.rules.proofs.Laws.Reader.{starts_length, table_fits, space_length, space_space, space_clear}
+use Rattle.rules.proofs.Laws.Table.{rows_length, nodes_few, read_table}
 use Rattle.header.specs.declared.Parts.{Parts}
 use Rattle.header.specs.declared.Refusal.{Refusal as HeaderRefusal}
 use Rattle.header.specs.Header.{Found, refused as headed}

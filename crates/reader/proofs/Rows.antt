@@ -16,8 +16,9 @@ use Rattle.rules.specs.Outcome.{Verdict, gives, refuses}
 use Rattle.rules.specs.Events.{Property}
 use Rattle.rules.specs.Tree.{Node, Tree, phandle_prop, shared_from, shared_judged}
 use Rattle.rules.specs.Reader.{row_of, rows_of, space_of}
-use Rattle.rules.specs.Laws.Tests.{by_test, or_nothing, or_comm, eqb_sym}
-use Rattle.rules.specs.Laws.Reader.{start_of, starts_of, starts_length, space_length, space_get, space_set, space_space}
+use Rattle.rules.proofs.Laws.Tests.{by_test, or_nothing, or_comm, eqb_sym}
+use Rattle.rules.specs.Laws.Reader.{start_of, starts_of}
+use Rattle.rules.proofs.Laws.Reader.{starts_length, space_length, space_get, space_set, space_space}
 use Rattle.rules.specs.Laws.Constants.{NODE_WORDS}
 use Rattle.passes.specs.Rows.{row_has, row_below, row_given, rows_from}
 

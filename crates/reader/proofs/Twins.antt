@@ -10,8 +10,9 @@ use Rattle.rules.specs.Outcome.{Verdict, refuses, passes}
 use Rattle.rules.specs.Blob.{Block}
 use Rattle.rules.specs.Tree.{Tree, node, doubled_judged, words_judged, shared_judged}
 use Rattle.rules.specs.Reader.{rows_of, space_of}
-use Rattle.rules.specs.Laws.Reader.{start_of, starts_of, starts_length, table_fits, space_get}
-use Rattle.rules.specs.Laws.Table.{nodes_few}
+use Rattle.rules.specs.Laws.Reader.{start_of, starts_of}
+use Rattle.rules.proofs.Laws.Reader.{starts_length, table_fits, space_get}
+use Rattle.rules.proofs.Laws.Table.{nodes_few}
 use Rattle.rules.specs.Laws.Constants.{NODE_WORDS}
 use Rattle.doubled.specs.declared.Found.{Found}
 use Rattle.doubled.specs.declared.Found.TheVariants.{Nothing, At}

@@ -16,8 +16,8 @@ use Rattle.rules.specs.Octets.{Bytes, if◌then◌else◌, byte_at, part, length
 use Rattle.rules.specs.Events.{string_at}
 use Rattle.rules.specs.Tree.{among}
 use Rattle.rules.specs.References.{reference_names, is_gpio, is_reference, Row, cells_in}
-use Rattle.rules.specs.Laws.Tests.{by_test, never, and_true, or_false, or_assoc, ltb_cong}
-use Rattle.rules.specs.Laws.Octets.{nul_stop, nul_on, same_eq}
+use Rattle.rules.proofs.Laws.Tests.{by_test, never, and_true, or_false, or_assoc, ltb_cong}
+use Rattle.rules.proofs.Laws.Octets.{nul_stop, nul_on, same_eq}
 use Rattle.references.specs.Rows.{onto, cut, place_in, asked, nth, is_named}
 
 -- ---- cutting

@@ -12,9 +12,10 @@ use Rattle.rules.specs.Octets.{Bytes, word_at}
 use Rattle.rules.specs.Blob.{Block}
 use Rattle.rules.specs.Tree.{Node, node}
 use Rattle.rules.specs.References.{Reference, scan_from}
-use Rattle.rules.specs.Laws.Tests.{by_test}
-use Rattle.rules.specs.Laws.References.{by_option, scan_end, scan_unknown, scan_known, scan_short}
-use Rattle.rules.specs.Laws.Tabled.{tree_in, node_in_lem, look_in, props_at, begin_of, count_named, look_small}
+use Rattle.rules.proofs.Laws.Tests.{by_test}
+use Rattle.rules.proofs.Laws.References.{by_option, scan_end, scan_unknown, scan_known, scan_short}
+use Rattle.rules.specs.Laws.Tabled.{tree_in, look_in, props_at, begin_of, count_named}
+use Rattle.rules.proofs.Laws.Tabled.{node_in_lem, look_small}
 use Rattle.references.specs.declared.scan.Next.{Next}
 use Rattle.references.specs.declared.scan.Next.TheVariants.{End}
 use Rattle.references.specs.Scan.{scan_at, refers_at, told, Ahead, scan_in, Scanned}

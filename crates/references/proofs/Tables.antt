@@ -6,8 +6,9 @@ use mathlib.Core.Option.{some}
 use Prim.Native.Nat.{ℕ, ◌+◌, ◌<◌}
 use lib.Dec.{eqb}
 use borrow.Author.Tests.{eqb-true, eqb-false}
-use Rattle.rules.specs.Laws.Tests.{by_test, and_true}
-use Rattle.rules.specs.Laws.Tabled.{cell, look_from, look_bare, look_other, look_here}
+use Rattle.rules.proofs.Laws.Tests.{by_test, and_true}
+use Rattle.rules.specs.Laws.Tabled.{cell}
+use Rattle.rules.proofs.Laws.Tabled.{look_from, look_bare, look_other, look_here}
 
 module _ (ws : List ℕ) (count w i : ℕ) (h : i < count) where
   pub look_hit : (eqb (cell ws i 2) 1 && eqb w (cell ws i 3)) ≡ true → look_from ws count w i ≡ some i

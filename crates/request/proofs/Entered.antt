@@ -9,7 +9,7 @@ use lib.Seq.{take_all}
 use borrow.Author.Tests.{not-true, not-false}
 use Rattle.rules.specs.Octets.{Bytes, if◌then◌else◌, part, closed}
 use Rattle.rules.specs.Program.{line_said, named_by}
-use Rattle.rules.specs.Laws.Tests.{never}
+use Rattle.rules.proofs.Laws.Tests.{never}
 use Rattle.request.specs.declared.Said.{Said}
 use Rattle.request.specs.declared.Said.TheVariants.{Configures, Excludes, Names, Other}
 use Rattle.request.specs.Answers.{said, enters, listed_by}

@@ -11,7 +11,8 @@ use Rattle.rules.specs.Octets.{Bytes, part}
 use Rattle.rules.specs.Outcome.{passes, refuses}
 use Rattle.rules.specs.Program.{line_said, is_other, lines_judged, input_judged, configured_in, excluded_in, ids_in, named_by}
 use Rattle.rules.specs.Program as program
-use Rattle.rules.specs.Laws.Program.{lines_at, lines_all, lines_none, lines_fault, lines_good, configured_split, excluded_split, named_split}
+use Rattle.rules.specs.Laws.Program.{lines_at}
+use Rattle.rules.proofs.Laws.Program.{lines_all, lines_none, lines_fault, lines_good, configured_split, excluded_split, named_split}
 use Rattle.request.specs.declared.Line.{Line}
 use Rattle.request.specs.declared.Line.TheVariants.{Text, Done}
 use Rattle.request.specs.Answers.{listed_by, list_in}

@@ -4,8 +4,9 @@ use Rattle.std.proofs.Common.{sym, ap, ◌∙◌, subst, arith, ltb-true, ltb-fa
 use Rattle.rules.specs.Octets.{Bytes, if◌then◌else◌, part}
 use Rattle.rules.specs.Program.{line_end}
 use Rattle.rules.specs.Program as program
-use Rattle.rules.specs.Laws.Tokens.{if_by}
-use Rattle.rules.specs.Laws.Program.{lines_at, lines_step, lines_end, lines_last, lines_inside}
+use Rattle.rules.proofs.Laws.Tokens.{if_by}
+use Rattle.rules.specs.Laws.Program.{lines_at}
+use Rattle.rules.proofs.Laws.Program.{lines_step, lines_end, lines_last, lines_inside}
 use Rattle.request.specs.declared.Line.{Line}
 use Rattle.request.specs.declared.Line.TheVariants.{Text, Done}
 

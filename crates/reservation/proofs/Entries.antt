@@ -7,8 +7,9 @@ use native.Mathlib.Omega.{arith}
 use lib.ListN.{length, take, drop, get_or, length-map, get_or-map}
 use lib.Seq.{take_all}
 use Rattle.rules.specs.Reservations.{Entry, invalid, any_invalid}
-use Rattle.rules.specs.Laws.Tests.{by_le}
-use Rattle.rules.specs.Laws.Reservations.{meets, any_meets, pairs_from, invalid_step, meets_step, pairs_step}
+use Rattle.rules.proofs.Laws.Tests.{by_le}
+use Rattle.rules.specs.Laws.Reservations.{meets, any_meets}
+use Rattle.rules.proofs.Laws.Reservations.{pairs_from, invalid_step, meets_step, pairs_step}
 use Rattle.reservation.specs.declared.Reservation.{Reservation}
 use Rattle.reservation.specs.Made.{entry_of, entries_of}
 

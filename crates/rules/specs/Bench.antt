@@ -1,9 +1,8 @@
 -- 01, "Trees on the bench": the starred cases in one table under a single statement; the names of the rule table, and near misses,
--- in another; and for tree T the whole answer. All by computation from the definitions.
-use Rattle.std.specs.Prelude.{◌≡◌, refl, Bool, true, false, List, [], ◌∷◌, ◌++◌, map, ℕ, ◌-◌, ◌^◌, length, replicate}
+-- in another; and for tree T the whole answer. That each case holds is proved in proofs/Bench.antt, by computation from the definitions.
+use Rattle.std.specs.Prelude.{Bool, true, false, List, [], ◌∷◌, ◌++◌, map, ℕ, ◌-◌, ◌^◌, length, replicate}
 use Rattle.std.proofs.Math.Option.{Option, none, some}
 use Prim.Native.String.{String}
-use Rattle.rules.specs.Everything.{everything}
 use Rattle.rules.specs.Octets.{Bytes, word_at, words32, zeros, ascii, closed, same}
 use Rattle.rules.specs.Outcome.{Outcome, gives, refuses}
 use Rattle.rules.specs.Names.{node_name_valid, property_name_valid}
@@ -88,7 +87,7 @@ bit false = 0 ∷ []
 abbrev referenced : String → List ℕ → List ℕ
 referenced name ws = map target (scan (lookup (tree_read host_t)) (cell_count edition1 (tree_read host_t) (ascii name)) (words32 ws))
 
-abbrev starred_cases : List Case
+abbrev pub starred_cases : List Case
 starred_cases =
     -- "Empty writer finished: 60 bytes. Root with property `a`, one byte: 90 bytes, structure size 32."
     record { gets = finished_after []; wants = 60 ∷ 4 ∷ [] }
@@ -115,10 +114,6 @@ starred_cases =
     -- "T, excluding `/clk`: list is `/soc/uart@100`, `/pd`."
     ∷ record { gets = list_of edition1 host_t (request_t (closed (ascii "/clk"))); wants = paths_bytes (ascii "/soc/uart@100" ∷ ascii "/pd" ∷ []) }
     ∷ []
-
-pub starred : hold_all starred_cases ≡ true
-unfolding hold_all events_t host_t everything
-starred = refl
 
 -- ---- tree T, whole
 
@@ -198,15 +193,11 @@ abbrev guest_bytes_of : Option Bytes → Bytes
 guest_bytes_of none = []
 guest_bytes_of (some b) = b
 
-abbrev answers_t : List Case
+abbrev pub answers_t : List Case
 answers_t =
     record { gets = (program edition1 host_t (line "c /soc/uart@100")).text; wants = text_t }
     ∷ record { gets = guest_bytes_of (program edition1 host_t (line "c /soc/uart@100")).guest; wants = guest_t }
     ∷ []
-
-pub answer_t : hold_all answers_t ≡ true
-unfolding hold_all events_t host_t everything
-answer_t = refl
 
 -- ---- the rule table
 
@@ -218,7 +209,7 @@ name_says refers (some c) = bit refers ++ ascii c
 abbrev named : String → Bool → Option String → Case
 named n refers c = record { gets = name_says (is_reference (ascii n)) (cells_in cell_rows (ascii n)); wants = name_says refers c }
 
-abbrev name_cases : List Case
+abbrev pub name_cases : List Case
 name_cases =
     -- the 23 names, and the cells property that a row gives them
     named "clocks" true (some "#clock-cells")
@@ -275,7 +266,3 @@ name_cases =
     ∷ named "interrupt-map" false none
     ∷ named "reg" false none
     ∷ []
-
-pub names : hold_all name_cases ≡ true
-unfolding hold_all everything
-names = refl

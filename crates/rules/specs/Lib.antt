@@ -26,6 +26,6 @@ pub mod Exactly
 pub mod Everything
 pub mod Bench
 pub mod Readings
--- what follows from them, proved; and, for contracts over lent words, how a node table is read as a tree (Tabled), and what a work
--- space keeps of it (Kept): these two a reader of such a contract looks up, nothing else of it needs to be believed
+-- for contracts over lent words: how a node table is read as a tree (Tabled), what a work space keeps of it (Kept), and the other words
+-- that contracts cite. These a reader of such a contract looks up; what follows from all of them is proved, in proofs/
 pub mod Laws

@@ -1,8 +1,7 @@
--- How 01 is read where it leaves room, and both sides of its limits: cases of each section in one table, by computation. The
--- readings are told in docs/DECISIONS.md.
-use Rattle.std.specs.Prelude.{◌≡◌, refl, true, false, List, [], ◌∷◌, ◌++◌, map, ℕ, zero, suc, ◌+◌, ◌-◌, length, replicate}
+-- How 01 is read where it leaves room, and both sides of its limits: cases of each section in one table. The readings are told in
+-- docs/DECISIONS.md; that each case holds is proved in proofs/Readings.antt, by computation.
+use Rattle.std.specs.Prelude.{true, false, List, [], ◌∷◌, ◌++◌, map, ℕ, zero, suc, ◌+◌, ◌-◌, length, replicate}
 use Prim.Native.String.{String}
-use Rattle.rules.specs.Everything.{everything}
 use Rattle.rules.specs.Octets.{Bytes, if◌then◌else◌, be32, be64, words32, zeros, put, ascii, closed}
 use Rattle.rules.specs.Outcome.{Outcome, gives, refuses, Verdict}
 use Rattle.rules.specs.Reservations.{Entry, overlapping}
@@ -23,7 +22,7 @@ use Rattle.rules.specs.Grammar.{Forest, empty, node as branch}
 use Rattle.rules.specs.Lists.{keep}
 use Rattle.rules.specs.Demands.{Plain, strings_after}
 use Rattle.rules.specs.Exactly.{unexamined, preorder, names_used, first_uses}
-use Rattle.rules.specs.Bench.{Case, hold_all, bit, number_of, node, cells, line, events_t, host_t}
+use Rattle.rules.specs.Bench.{Case, bit, number_of, node, cells, line, host_t}
 
 abbrev says : List ℕ → List ℕ → Case
 says gets wants = record { gets = gets; wants = wants }
@@ -101,10 +100,6 @@ writer_cases =
     ∷ says (bit (overlapping (entry 0 10 ∷ entry 2 1 ∷ entry 20 1 ∷ []))) (1 ∷ [])
     ∷ []
 
-pub writer_reads : hold_all writer_cases ≡ true
-unfolding hold_all writer_cases nest everything
-writer_reads = refl
-
 -- ---- the reader: 0 and the node count, or the refusal's number and place
 
 abbrev answered : Outcome ℕ → List ℕ
@@ -175,10 +170,6 @@ header_cases =
     ∷ says (damaged 36 (be32 0xfffffffc)) (5 ∷ 0 ∷ [])
     ∷ []
 
-pub header_reads : hold_all header_cases ≡ true
-unfolding hold_all header_cases events_t host_t everything
-header_reads = refl
-
 unfoldable pub shape_cases : List Case
 shape_cases =
     -- 6: no token at all; no END; END too early, twice, or with something behind; a second root; no root; an unknown token
@@ -204,10 +195,6 @@ shape_cases =
     ∷ says (reads (made (root ++ (be32 1 ++ ascii "abcd")) ab)) (6 ∷ 64 ∷ [])
     ∷ []
 
-pub shape_reads : hold_all shape_cases ≡ true
-unfolding hold_all shape_cases everything
-shape_reads = refl
-
 unfoldable pub name_cases : List Case
 name_cases =
     -- 7: a root with a name, a child with none or a bad one, a property whose name is outside, empty, unclosed or bad
@@ -224,10 +211,6 @@ name_cases =
     ∷ says (reads (made (root ++ (prop 0 [] ++ (end_bytes ++ finis))) (closed (replicate 32 97)))) (7 ∷ 64 ∷ [])
     ∷ []
 
-pub name_reads : hold_all name_cases ≡ true
-unfolding hold_all name_cases everything
-name_reads = refl
-
 unfoldable pub limit_cases : List Case
 limit_cases =
     -- 8: a 64th open node, and a 65th; 9: a 2,048th node, and one more; 7 before 8 before 9
@@ -239,10 +222,6 @@ limit_cases =
     ∷ says (counted (opening (record { stack = replicate 64 0; count = 2048; ended = false }) [])) (7 ∷ [])
     ∷ []
 
-pub limit_reads : hold_all limit_cases ≡ true
-unfolding hold_all limit_cases everything
-limit_reads = refl
-
 unfoldable pub double_cases : List Case
 double_cases =
     -- 10: siblings; properties of a node; whole names; the earliest token of either kind
@@ -252,10 +231,6 @@ double_cases =
     ∷ says (reads (blob_of [] 0 (node "" ∷ cells "p" [] ∷ cells "q" [] ∷ cells "p" [] ∷ closes 0 ∷ []))) (10 ∷ 88 ∷ [])
     ∷ says (reads (blob_of [] 0 (node "" ∷ node "a" ∷ closes 0 ∷ node "b" ∷ cells "p" [] ∷ cells "p" [] ∷ closes 0 ∷ node "a" ∷ closes 0 ∷ closes 0 ∷ []))) (10 ∷ 96 ∷ [])
     ∷ []
-
-pub double_reads : hold_all double_cases ≡ true
-unfolding hold_all double_cases everything
-double_reads = refl
 
 unfoldable pub word_cases : List Case
 word_cases =
@@ -273,10 +248,6 @@ word_cases =
     ∷ says (rows_of (tree_read host_t))
     (56 ∷ 0 ∷ 0 ∷ 0 ∷ 64 ∷ 0 ∷ 1 ∷ 1 ∷ 108 ∷ 0 ∷ 1 ∷ 2 ∷ 136 ∷ 0 ∷ 0 ∷ 0 ∷ 144 ∷ 3 ∷ 0 ∷ 0 ∷ 200 ∷ 3 ∷ 1 ∷ 3 ∷ [])
     ∷ []
-
-pub word_reads : hold_all word_cases ≡ true
-unfolding hold_all word_cases events_t host_t everything
-word_reads = refl
 
 -- ---- the derivation: 0, the count of paths and the lengths of list and guest, or the refusal's number and place
 
@@ -364,10 +335,6 @@ request_cases =
     ∷ says (granted (blob_of [] 0 (node "" ∷ node "cpus" ∷ node "cpu@0" ∷ cells "reg" (0 ∷ 0 ∷ 0 ∷ []) ∷ closes 0 ∷ closes 0 ∷ closes 0 ∷ [])) (asks [] [] (9 ∷ []))) (43 ∷ 76 ∷ [])
     ∷ []
 
-pub request_reads : hold_all request_cases ≡ true
-unfolding hold_all request_cases cpu_events events_t host_t everything
-request_reads = refl
-
 -- ---- the list asked for alone: 0, the count of paths and the length of the list, or the refusal's number and place
 
 abbrev found : Outcome Found → List ℕ
@@ -402,10 +369,6 @@ find_cases =
     ∷ says (leaves ("/clk" ∷ "/pd" ∷ []) 8) (replicate 8 7)
     ∷ says (find_work (7 ∷ 0 ∷ 7 ∷ [])) (7 ∷ 0 ∷ 7 ∷ [])
     ∷ []
-
-pub find_reads : hold_all find_cases ≡ true
-unfolding hold_all find_cases events_t host_t everything
-find_reads = refl
 
 -- ---- the list and the copy
 
@@ -464,10 +427,6 @@ list_cases =
     ∷ says (guest_names cpu_host (asks [] ("/" ∷ []) (0 ∷ 0 ∷ []))) (paths ("" ∷ "cpus" ∷ "cpu@0" ∷ "l2" ∷ "cpu-map" ∷ []))
     ∷ []
 
-pub list_reads : hold_all list_cases ≡ true
-unfolding hold_all list_cases slash_events chain_events cpu_events everything
-list_reads = refl
-
 -- ---- what is withheld: how many bytes
 
 -- a property of one word, with a place to tell it by
@@ -514,10 +473,6 @@ secret_cases =
     ∷ says (is_hidden 83 ++ (is_hidden 84 ++ (is_hidden 87 ++ is_hidden 88))) (0 ∷ 1 ∷ 1 ∷ 0 ∷ [])
     ∷ []
 
-pub secret_reads : hold_all secret_cases ≡ true
-unfolding hold_all secret_cases secret_tree hidden_among hidden_from everything
-secret_reads = refl
-
 -- ---- what is not examined, the grammar's nodes, and the names of the strings block
 
 -- the bench's blob of 90 bytes, and two bytes behind it
@@ -544,10 +499,6 @@ exact_cases =
     ∷ says (strings_after twice) (97 ∷ 0 ∷ 98 ∷ 0 ∷ [])
     ∷ []
 
-pub exact_reads : hold_all exact_cases ≡ true
-unfolding hold_all exact_cases everything
-exact_reads = refl
-
 -- ---- the program's text
 
 abbrev prints : Bytes → Bytes → Bytes
@@ -571,7 +522,3 @@ program_cases =
     ∷ says (prints host_t (ascii "i 18446744073709551615")) (line "refused 44 at 0")
     ∷ says (prints host_t []) (line "paths 0" ++ line "guest 72")
     ∷ []
-
-pub program_reads : hold_all program_cases ≡ true
-unfolding hold_all program_cases events_t host_t everything
-program_reads = refl

@@ -3,7 +3,6 @@
 // moves, stand here for code and where the definitions read its sections.
 #![tactic(auto)]
 
-
 // Ceilings.
 pub const BLOB_CEILING: usize = 1048576;
 

@@ -19,9 +19,11 @@ use Rattle.rules.specs.Events.{Event, after, on_token, judge, shape_judged, sayi
 use Rattle.rules.specs.Events as events
 use Rattle.rules.specs.Tree.{top, rest, nodes_from, nodes_of}
 use Rattle.rules.specs.Reader.{space_of}
-use Rattle.rules.specs.Laws.Tokens.{item_ahead}
-use Rattle.rules.specs.Laws.Events.{judged_at, events_at, judged_all, events_all, judged_item, judged_end, judged_cut, events_item, events_end, events_cut}
-use Rattle.rules.specs.Laws.Reader.{start_of, starts_of, starts_length, starts_opens, starts_has, starts_closes, starts_none, table_fits, space_length, space_space, space_get, space_row}
+use Rattle.rules.proofs.Laws.Tokens.{item_ahead}
+use Rattle.rules.specs.Laws.Events.{events_at}
+use Rattle.rules.proofs.Laws.Events.{judged_at, judged_all, events_all, judged_item, judged_end, judged_cut, events_item, events_end, events_cut}
+use Rattle.rules.specs.Laws.Reader.{start_of, starts_of}
+use Rattle.rules.proofs.Laws.Reader.{starts_length, starts_opens, starts_has, starts_closes, starts_none, table_fits, space_length, space_space, space_get, space_row}
 use Rattle.rules.specs.contracts.Token as tokens
 use Rattle.rules.specs.declared.Token.{Token}
 use Rattle.rules.specs.declared.Token.TheVariants.{Item, End, Cut}

@@ -13,9 +13,9 @@ use Rattle.rules.specs.Blob.{Block}
 use Rattle.rules.specs.Tree.{Tree, node, path, spell}
 use Rattle.rules.specs.Listing.{paths_bytes}
 use Rattle.rules.specs.Space.{list_at}
-use Rattle.rules.specs.Laws.Tests.{by_le}
-use Rattle.rules.specs.Laws.Octets.{lay_lay}
-use Rattle.rules.specs.Laws.Kept.{stack_behind, names_behind, names_inside, longest, paths_counted}
+use Rattle.rules.proofs.Laws.Tests.{by_le}
+use Rattle.rules.proofs.Laws.Octets.{lay_lay}
+use Rattle.rules.proofs.Laws.Kept.{stack_behind, names_behind, names_inside, longest, paths_counted}
 use Rattle.rules.specs.Laws.Tabled.{tree_in}
 use Rattle.paths.proofs.Spellings.{name_short, path_out}
 use Rattle.spelled.specs.Lists.{list_bytes}

@@ -16,8 +16,10 @@ use Rattle.rules.specs.declared.Token.{Token}
 use Rattle.rules.specs.declared.Token.TheVariants.{Item, End, Cut}
 use Rattle.rules.specs.declared.Kind.{Kind}
 use Rattle.rules.specs.declared.Kind.TheVariants.{Begin, EndNode, Prop, Nop}
-use Rattle.rules.specs.Laws.Tokens.{tokens_at, tokens_item, Ahead, token_ahead}
-use Rattle.rules.specs.Laws.Events.{events_at, events_item, events_end, events_cut}
+use Rattle.rules.specs.Laws.Tokens.{tokens_at}
+use Rattle.rules.proofs.Laws.Tokens.{tokens_item, Ahead, token_ahead}
+use Rattle.rules.specs.Laws.Events.{events_at}
+use Rattle.rules.proofs.Laws.Events.{events_item, events_end, events_cut}
 use Rattle.rules.specs.Laws.Tabled.{props_behind, props_at}
 use Rattle.tokens.specs.declared.Property as next
 use Rattle.tokens.specs.declared.Property.TheVariants.{Here, Missing}

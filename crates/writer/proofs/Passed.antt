@@ -13,10 +13,10 @@ use Rattle.rules.specs.Octets.{Bytes, if◌then◌else◌, be32, put, lay, has_n
 use Rattle.rules.specs.Names.{node_name_valid}
 use Rattle.rules.specs.Outcome.{refuses, Verdict, passes, settled, Test, first}
 use Rattle.rules.specs.Writer.{State, answer, room, no_room, wrong_state, test, begin_bytes, end_bytes, begin_judged, end_judged, finish_judged, finish_data, total, header_of, strings_of}
-use Rattle.rules.specs.Laws.Tests.{or_false}
-use Rattle.rules.specs.Laws.Octets.{lay_put, length_lay, length_be32}
-use Rattle.rules.specs.Laws.Writer.{laid_on}
-use Rattle.rules.specs.Laws.Header.{length_header}
+use Rattle.rules.proofs.Laws.Tests.{or_false}
+use Rattle.rules.proofs.Laws.Octets.{lay_put, length_lay, length_be32}
+use Rattle.rules.proofs.Laws.Writer.{laid_on}
+use Rattle.rules.proofs.Laws.Header.{length_header}
 use Rattle.judge.proofs.Possible.{Possible, possible}
 
 -- ---- verdicts

@@ -11,7 +11,7 @@ use Rattle.rules.specs.Octets.{Bytes, padded, lay, has_nul}
 use Rattle.rules.specs.Names.{property_name_valid}
 use Rattle.rules.specs.Outcome.{gives, refuses, passes}
 use Rattle.rules.specs.Writer.{State, name_offset, no_room, wrong_state, test, strings_of, growth, property_bytes, property_at, property_judged, with_property, property, property_data, property_strings}
-use Rattle.rules.specs.Laws.Writer.{length_property}
+use Rattle.rules.proofs.Laws.Writer.{length_property}
 use Rattle.judge.specs.Meaning.{number_of}
 use Rattle.judge.specs.Judged.{place_of, sized, placed, grown}
 use Rattle.judge.specs.declared.Error.{Error}

@@ -11,7 +11,7 @@ use Rattle.rules.specs.Octets.{Bytes, if◌then◌else◌, be32, be64, zeros, la
 use Rattle.rules.specs.Outcome.{refuses, passes}
 use Rattle.rules.specs.Reservations.{Entry, entry_bytes, block, any_invalid, overlapping, neighbours, sorted_from}
 use Rattle.rules.specs.Writer.{State, fresh, room, test, no_room, start_bytes, start_judged, start, start_data}
-use Rattle.rules.specs.Laws.Octets.{length_zeros}
+use Rattle.rules.proofs.Laws.Octets.{length_zeros}
 use Rattle.writer.proofs.Passed.{all_passed, fits, answer_refused, answer_done, kept, changed}
 
 pub start_none : start_bytes [] ≡ zeros 56

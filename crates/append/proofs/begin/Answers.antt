@@ -5,8 +5,8 @@ use native.Mathlib.Omega.{arith}
 use lib.ListN.{length}
 use Rattle.rules.specs.Octets.{be32, padded}
 use Rattle.rules.specs.Writer.{begin_bytes}
-use Rattle.rules.specs.Laws.Octets.{lay_past, length_be32}
-use Rattle.rules.specs.Laws.Writer.{laid_on, filled_closed}
+use Rattle.rules.proofs.Laws.Octets.{lay_past, length_be32}
+use Rattle.rules.proofs.Laws.Writer.{laid_on, filled_closed}
 use borrow.Author.Rules.{rules}
 use Rattle.append.proofs.begin.Goals as goal
 

@@ -4,8 +4,8 @@ use mathlib.Core.Bool.{true, false}
 use native.Mathlib.Omega.{arith}
 use borrow.Author.Tests.{not-true, not-false}
 use Rattle.rules.specs.Octets.{begins, closed}
-use Rattle.rules.specs.Laws.Octets.{begins_short}
-use Rattle.rules.specs.Laws.Writer.{begins_closed, length_closed}
+use Rattle.rules.proofs.Laws.Octets.{begins_short}
+use Rattle.rules.proofs.Laws.Writer.{begins_closed, length_closed}
 use borrow.Author.Rules.{rules}
 use Rattle.append.proofs.closed_here.Goals as goal
 

@@ -3,8 +3,8 @@ use mathlib.Core.Path.{refl, ◌∙◌}
 use Prim.Native.Nat.{◌-◌}
 use native.Mathlib.Omega.{arith}
 use Rattle.rules.specs.Octets.{zeros}
-use Rattle.rules.specs.Laws.Octets.{lay_more}
-use Rattle.rules.specs.Laws.Writer.{laid_on}
+use Rattle.rules.proofs.Laws.Octets.{lay_more}
+use Rattle.rules.proofs.Laws.Writer.{laid_on}
 use borrow.Author.Rules.{rules}
 use Rattle.append.proofs.filled.Goals as goal
 

@@ -1,16 +1,14 @@
 use mathlib.Core.List.{[]}
 use mathlib.Core.Path.{sym, ap, ◌∙◌}
 use mathlib.Core.Option.{none, some}
-use Prim.Native.Nat.{◌-◌, ◌≤◌}
 use native.Mathlib.Omega.{arith}
-use lib.ListN.{length}
 use Rattle.rules.specs.Octets.{Bytes, part}
 use Rattle.rules.specs.Tree.{frame}
-use Rattle.rules.specs.Laws.Kept.{node_word}
+use Rattle.rules.proofs.Laws.Kept.{node_word}
 use Rattle.rules.specs.Laws.Tabled.{tree_of}
 use Rattle.references.specs.Table.{found}
 use Rattle.given.specs.Entries.{path_tells}
-use Rattle.asked.proofs.Turns.{told_at, at_small, Rest, rest_length, rest_first, rest-done, rest-none, rest-again, rest-new}
+use Rattle.asked.proofs.Turns.{told_at, at_small, rest_length, rest_first, rest-done, rest-none, rest-again, rest-new}
 use borrow.Author.Rules.{rules}
 use Rattle.asked.proofs.configured.Goals as goal
 

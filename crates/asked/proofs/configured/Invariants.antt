@@ -1,19 +1,11 @@
 -- `configured` meets its contract. The invariant: the nodes laid, and those that the rest of the list names up to its first fault,
 -- are the whole; the rest of the list, judged with what was seen, is the whole list judged.
-use mathlib.Core.List.{[]}
-use mathlib.Core.Path.{sym, ap, ◌∙◌}
-use mathlib.Core.Option.{none, some}
 use Prim.Native.Nat.{◌-◌, ◌≤◌}
-use native.Mathlib.Omega.{arith}
 use lib.ListN.{length}
-use Rattle.rules.specs.Octets.{Bytes, part}
+use Rattle.rules.specs.Octets.{Bytes}
 use Rattle.rules.specs.Tree.{frame}
-use Rattle.rules.specs.Laws.Kept.{node_word}
 use Rattle.rules.specs.Laws.Tabled.{tree_of}
-use Rattle.references.specs.Table.{found}
-use Rattle.given.specs.Entries.{path_tells}
-use Rattle.asked.proofs.Turns.{told_at, at_small, Rest, rest_length, rest_first, rest-done, rest-none, rest-again, rest-new}
-use borrow.Author.Rules.{rules}
+use Rattle.asked.proofs.Turns.{Rest}
 use Rattle.asked.proofs.configured.Given as goal
 
 abbrev pub invariant-loop-len : goal.invariant-loop-len

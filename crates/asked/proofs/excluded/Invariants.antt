@@ -1,18 +1,10 @@
 -- `excluded` meets its contract. The invariant: the nodes laid, and those that the rest of the list names, are the whole.
-use mathlib.Core.List.{[]}
-use mathlib.Core.Path.{ap}
-use mathlib.Core.Option.{none, some}
 use Prim.Native.Nat.{◌-◌, ◌≤◌}
-use native.Mathlib.Omega.{arith}
 use lib.ListN.{length}
-use Rattle.rules.specs.Octets.{Bytes, part}
+use Rattle.rules.specs.Octets.{Bytes}
 use Rattle.rules.specs.Tree.{frame}
-use Rattle.rules.specs.Laws.Kept.{node_word}
 use Rattle.rules.specs.Laws.Tabled.{tree_of}
-use Rattle.references.specs.Table.{found}
-use Rattle.given.specs.Entries.{path_tells}
-use Rattle.asked.proofs.Turns.{told_at, at_small, Left, left_length, left_first, left_done, left-some, left-none}
-use borrow.Author.Rules.{rules}
+use Rattle.asked.proofs.Turns.{Left}
 use Rattle.asked.proofs.excluded.Given as goal
 
 abbrev pub invariant-loop-len : goal.invariant-loop-len

@@ -1,10 +1,6 @@
-use mathlib.Core.Path.{◌≡◌, sym, ◌∙◌}
-use Prim.Native.Nat.{◌-◌}
+use mathlib.Core.Path.{sym, ◌∙◌}
 use native.Mathlib.Omega.{arith}
-use lib.ListN.{take}
-use Rattle.rules.specs.Lists.{one_of}
-use Rattle.asked.proofs.Ones.{rest, one_none, one_end, one_here, one_past}
-use borrow.Author.Rules.{rules}
+use Rattle.asked.proofs.Ones.{one_none, one_end, one_here, one_past}
 use Rattle.asked.proofs.one_of.Goals as goal
 
 pub returns-then-nodes-k : goal.returns-then-nodes-k

@@ -1,6 +1,6 @@
 -- `accepted` meets its contract: judged, and, where it passes, listed, copied and written.
 use mathlib.Core.Path.{refl, ap}
-use Rattle.rules.specs.Laws.Host.{block_is, wide}
+use Rattle.rules.proofs.Laws.Host.{block_is, wide}
 use Rattle.derive.specs.Answers.{checked}
 use Rattle.derive.proofs.Joining.{whole, accepts_not, start-asked, accepts}
 use Rattle.rules.specs.Blob.{block_of}

@@ -4,7 +4,8 @@ use mathlib.Core.List.{List}
 use Prim.Native.Nat.{ℕ}
 use lib.ListN.{length, drop}
 use Rattle.rules.specs.Ceilings.{work_words}
-use Rattle.rules.specs.Laws.Host.{HostRead, host_read, cleared, space_cleared, space_length_kept}
+use Rattle.rules.specs.Laws.Host.{HostRead}
+use Rattle.rules.proofs.Laws.Host.{host_read, cleared, space_cleared, space_length_kept}
 use Rattle.reader.specs.Answers.{meaning}
 use Rattle.derive.proofs.Joining.{refused_answer, refused_list, refused_guest, refused_space, derived_is, derived_list, derived_guest}
 use borrow.Author.Rules.{rules}

@@ -1,6 +1,6 @@
 -- `accepted` meets its contract: judged, and, where the lists pass, listed and written.
 use mathlib.Core.Path.{refl, ap}
-use Rattle.rules.specs.Laws.Host.{block_is, wide}
+use Rattle.rules.proofs.Laws.Host.{block_is, wide}
 use Rattle.device.specs.Answers.{checked}
 use Rattle.device.proofs.Joining.{accepts_not, start-asked, accepts}
 use Rattle.rules.specs.Blob.{block_of}

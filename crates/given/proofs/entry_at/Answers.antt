@@ -1,7 +1,7 @@
 -- `entry_at` meets its contract.
 use native.Mathlib.Omega.{arith}
 use borrow.Author.Tests.{lt-ltb, le-ltb}
-use Rattle.rules.specs.Laws.Given.{given_inside}
+use Rattle.rules.proofs.Laws.Given.{given_inside}
 use Rattle.given.specs.Entries.{path_of, entry_at}
 use borrow.Author.Rules.{rules}
 use Rattle.given.proofs.entry_at.Goals as goal

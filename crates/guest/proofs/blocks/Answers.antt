@@ -1,7 +1,7 @@
 use Prim.Native.Nat.{◌-◌}
 use native.Mathlib.Omega.{arith}
 use lib.ListN.{length}
-use Rattle.rules.specs.Laws.Tokens.{item_ahead}
+use Rattle.rules.proofs.Laws.Tokens.{item_ahead}
 use Rattle.guest.proofs.Filled.{Fills, fills_start, fills_near, fills_stop, fills-fits, fills-on}
 use borrow.Author.Rules.{rules}
 use borrow.Enum.Refused.{opened}

@@ -2,7 +2,7 @@ use mathlib.Core.Path.{sym, ap, ◌∙◌}
 use mathlib.Core.Bool.{not}
 use Prim.Native.Nat.{◌-◌, ◌<◌}
 use native.Mathlib.Omega.{arith}
-use Rattle.rules.specs.Laws.Blob.{Searched, search_starts, search_on, entries_none, entries_here}
+use Rattle.rules.proofs.Laws.Blob.{Searched, search_starts, search_on, entries_none, entries_here}
 use borrow.Author.Rules.{rules}
 use Rattle.header.proofs.closed.Goals as goal
 

@@ -1,7 +1,7 @@
 -- `bad_list` meets its contract.
 use mathlib.Core.Path.{sym}
 use native.Mathlib.Omega.{arith}
-use Rattle.rules.specs.Laws.Writer.{bad_none, bad_last}
+use Rattle.rules.proofs.Laws.Writer.{bad_none, bad_last}
 use borrow.Author.Rules.{rules}
 use Rattle.judge.proofs.bad_list.Goals as goal
 

@@ -9,7 +9,7 @@ use Rattle.rules.specs.Ceilings.{blob_ceiling, open_ceiling}
 use Rattle.rules.specs.Octets.{has_nul}
 use Rattle.rules.specs.Names.{node_name_valid}
 use Rattle.rules.specs.Writer.{room, impossible, begin_bytes, begin_judged}
-use Rattle.rules.specs.Laws.Writer.{length_begin}
+use Rattle.rules.proofs.Laws.Writer.{length_begin}
 use Rattle.judge.specs.Meaning.{state_of}
 use borrow.Author.Rules.{rules}
 use Rattle.judge.proofs.begin_node.Goals as goal

@@ -4,7 +4,7 @@ use Prim.Native.Nat.{◌-◌, ◌≤◌}
 use native.Mathlib.Omega.{arith}
 use lib.ListN.{take, drop}
 use Rattle.rules.specs.Lists.{one_of}
-use Rattle.rules.specs.Laws.Writer.{one_of_take_here, one_of_more, one_of_take_end}
+use Rattle.rules.proofs.Laws.Writer.{one_of_take_here, one_of_more, one_of_take_end}
 use borrow.Author.Rules.{rules}
 use Rattle.judge.proofs.noted.Given as goal
 

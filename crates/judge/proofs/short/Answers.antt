@@ -4,7 +4,7 @@ use Prim.Native.Nat.{◌+◌, ◌-◌}
 use native.Mathlib.Omega.{arith}
 use borrow.Author.Tests.{lt-ltb}
 use Rattle.rules.specs.Writer.{room}
-use Rattle.rules.specs.Laws.Tests.{ltb_cong}
+use Rattle.rules.proofs.Laws.Tests.{ltb_cong}
 use borrow.Author.Rules.{rules}
 use Rattle.judge.proofs.short.Goals as goal
 

@@ -5,7 +5,7 @@ use lib.ListN.{length, drop}
 use borrow.Author.Tests.{not-true, not-false}
 use Rattle.names.specs.Chars.{char_of}
 use Rattle.rules.specs.Lists.{every}
-use Rattle.rules.specs.Laws.Names.{every_hit, every_miss, every_end}
+use Rattle.rules.proofs.Laws.Names.{every_hit, every_miss, every_end}
 use borrow.Author.Rules.{rules}
 use Rattle.names.proofs.name_chars.Goals as goal
 

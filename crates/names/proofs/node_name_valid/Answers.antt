@@ -9,8 +9,8 @@ use lib.Seq.{length-take-le}
 use Rattle.rules.specs.Ceilings.{node_name_ceiling}
 use Rattle.rules.specs.Names.{node_char}
 use Rattle.rules.specs.Lists.{every}
-use Rattle.rules.specs.Laws.Octets.{take_rest, to_le}
-use Rattle.rules.specs.Laws.Names.{node_empty, node_rule, every_end}
+use Rattle.rules.proofs.Laws.Octets.{take_rest, to_le}
+use Rattle.rules.proofs.Laws.Names.{node_empty, node_rule, every_end}
 use borrow.Author.Rules.{rules}
 use Rattle.names.proofs.node_name_valid.Goals as goal
 

@@ -5,8 +5,8 @@ use Prim.Native.Nat.{ℕ, ◌+◌, ◌≤◌, ◌<◌}
 use native.Mathlib.Omega.{arith}
 use Rattle.rules.specs.Names.{node_char}
 use Rattle.rules.specs.Lists.{one_of}
-use Rattle.rules.specs.Laws.Tests.{by_le}
-use Rattle.rules.specs.Laws.Names.{steady, all_in, none_in}
+use Rattle.rules.proofs.Laws.Tests.{by_le}
+use Rattle.rules.proofs.Laws.Names.{steady, all_in, none_in}
 use Rattle.names.proofs.node_name_valid_char.Goals as goal
 
 yes : (low n c : ℕ) → steady node_char low n ≡ true → low ≤ c → c < low + n → true ≡ node_char c

@@ -3,7 +3,7 @@ use Prim.Native.Nat.{◌-◌, ◌≤◌}
 use native.Mathlib.Omega.{arith}
 use lib.ListN.{length, drop}
 use Rattle.rules.specs.Octets.{begins}
-use Rattle.rules.specs.Laws.Octets.{begins_short, begins_more, begins_not, begins_done}
+use Rattle.rules.proofs.Laws.Octets.{begins_short, begins_more, begins_not, begins_done}
 use borrow.Author.Rules.{rules}
 use Rattle.octets.proofs.begins.Goals as goal
 

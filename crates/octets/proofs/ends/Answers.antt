@@ -4,7 +4,7 @@ use Prim.Native.Nat.{◌-◌}
 use native.Mathlib.Omega.{arith}
 use lib.ListN.{length, drop, length-drop}
 use Rattle.rules.specs.Octets.{begins}
-use Rattle.rules.specs.Laws.Octets.{ends_short, ends_at, begins_same, take_rest}
+use Rattle.rules.proofs.Laws.Octets.{ends_short, ends_at, begins_same, take_rest}
 use borrow.Author.Rules.{rules}
 use Rattle.octets.proofs.ends.Goals as goal
 

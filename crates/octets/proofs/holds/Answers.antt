@@ -3,7 +3,7 @@ use Prim.Native.Nat.{◌-◌, ◌≤◌}
 use native.Mathlib.Omega.{arith}
 use lib.ListN.{length, drop}
 use Rattle.rules.specs.Octets.{begins, holds}
-use Rattle.rules.specs.Laws.Octets.{holds_here, holds_more, holds_end, take_rest}
+use Rattle.rules.proofs.Laws.Octets.{holds_here, holds_more, holds_end, take_rest}
 use borrow.Author.Rules.{rules}
 use Rattle.octets.proofs.holds.Goals as goal
 

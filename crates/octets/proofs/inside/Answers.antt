@@ -2,7 +2,7 @@
 use Prim.Native.Nat.{◌+◌, ◌-◌}
 use native.Mathlib.Omega.{arith}
 use borrow.Author.Tests.{le-ltb}
-use Rattle.rules.specs.Laws.Tests.{ltb_cong}
+use Rattle.rules.proofs.Laws.Tests.{ltb_cong}
 use borrow.Author.Rules.{rules}
 use Rattle.octets.proofs.inside.Goals as goal
 

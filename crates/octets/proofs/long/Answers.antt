@@ -5,7 +5,7 @@ use native.Mathlib.Omega.{arith}
 use lib.ListN.{length}
 use borrow.Author.Tests.{ltb-true, ltb-false}
 use Rattle.rules.specs.Octets.{long_at}
-use Rattle.rules.specs.Laws.Octets.{word_past}
+use Rattle.rules.proofs.Laws.Octets.{word_past}
 use borrow.Author.Rules.{rules}
 use Rattle.octets.proofs.long.Goals as goal
 

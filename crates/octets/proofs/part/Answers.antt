@@ -4,7 +4,7 @@ use Prim.Native.Nat.{ℕ, ◌+◌, ◌-◌}
 use native.Mathlib.Omega.{arith}
 use lib.ListN.{take, drop, drop_of_length-le, length-drop}
 use lib.Seq.{take-nil, take_all}
-use Rattle.rules.specs.Laws.Octets.{take_rest}
+use Rattle.rules.proofs.Laws.Octets.{take_rest}
 use borrow.Author.Rules.{rules}
 use Rattle.octets.proofs.part.Goals as goal
 

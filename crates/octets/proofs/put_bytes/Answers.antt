@@ -4,7 +4,7 @@ use native.Mathlib.Nat.{le_antisymm}
 use native.Mathlib.Omega.{arith}
 use lib.ListN.{length, length-set}
 use lib.Seq.{paste-zero}
-use Rattle.rules.specs.Laws.Octets.{laid, laid_more, lay_paste}
+use Rattle.rules.proofs.Laws.Octets.{laid, laid_more, lay_paste}
 use borrow.Author.Rules.{rules}
 use Rattle.octets.proofs.put_bytes.Goals as goal
 

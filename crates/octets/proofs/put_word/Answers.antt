@@ -5,7 +5,7 @@ use native.Mathlib.Omega.{arith}
 use lib.ListN.{length, length-set}
 use borrow.Author.Tests.{ltb-true}
 use Rattle.rules.specs.Octets.{be32}
-use Rattle.rules.specs.Laws.Octets.{lay_four}
+use Rattle.rules.proofs.Laws.Octets.{lay_four}
 use borrow.Author.Rules.{rules}
 use Rattle.octets.proofs.put_word.Goals as goal
 

@@ -1,7 +1,7 @@
 -- `put_word_of` meets its contract.
 use mathlib.Core.Path.{sym}
 use mathlib.Core.List.{[], ◌∷◌}
-use Rattle.rules.specs.Laws.Octets.{lay_one, lay_past}
+use Rattle.rules.proofs.Laws.Octets.{lay_one, lay_past}
 use borrow.Author.Rules.{rules}
 use Rattle.octets.proofs.put_word_of.Goals as goal
 

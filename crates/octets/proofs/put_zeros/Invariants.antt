@@ -6,7 +6,7 @@ use native.Mathlib.Omega.{arith}
 use lib.ListN.{length, length-set}
 use lib.Seq.{paste-zero}
 use Rattle.rules.specs.Octets.{zeros}
-use Rattle.rules.specs.Laws.Octets.{laid, zeros_more, lay_zeros}
+use Rattle.rules.proofs.Laws.Octets.{laid, zeros_more, lay_zeros}
 use borrow.Author.Rules.{rules}
 use Rattle.octets.proofs.put_zeros.Given as goal
 

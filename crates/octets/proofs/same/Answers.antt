@@ -1,7 +1,7 @@
 -- `same` meets its contract.
 use mathlib.Core.Path.{sym, ap, ◌∙◌}
 use lib.ListN.{length}
-use Rattle.rules.specs.Laws.Octets.{ne_same, begins_same}
+use Rattle.rules.proofs.Laws.Octets.{ne_same, begins_same}
 use borrow.Author.Rules.{rules}
 use Rattle.octets.proofs.same.Goals as goal
 

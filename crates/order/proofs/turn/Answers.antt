@@ -2,7 +2,7 @@
 use mathlib.Core.Path.{sym, ◌∙◌}
 use native.Mathlib.Omega.{arith}
 use borrow.Author.Tests.{not-true, not-false}
-use Rattle.rules.specs.Laws.Kept.{node_word}
+use Rattle.rules.proofs.Laws.Kept.{node_word}
 use Rattle.order.proofs.Turns.{turn_skip, formed_kept, ordered_kept, turn-take}
 use borrow.Author.Rules.{rules}
 use Rattle.rules.specs.Blob.{block_of}

@@ -2,11 +2,11 @@
 use mathlib.Core.Path.{ap}
 use Prim.Native.Nat.{ℕ}
 use lib.Dec.{eqb}
-use Rattle.rules.specs.Laws.Kept.{node_word, word_in_part, put_in_part}
+use Rattle.rules.proofs.Laws.Kept.{node_word, word_in_part, put_in_part}
 use Rattle.picks.proofs.Coding.{turned_is}
 use borrow.Author.Rules.{rules}
 use Rattle.rules.specs.Blob.{block_of}
-use Rattle.rules.specs.Laws.Constants.{marks_at_lem, stack_at_lem, names_at_lem}
+use Rattle.rules.proofs.Laws.Constants.{marks_at_lem, stack_at_lem, names_at_lem}
 use Rattle.picks.proofs.pick.Goals as goal
 
 pub code-c-requires : goal.code-c-requires

@@ -5,7 +5,7 @@ use native.Mathlib.Nat.{sub_self}
 use native.Mathlib.Omega.{arith}
 use lib.ListN.{length, length-set}
 use lib.Seq.{paste-zero}
-use Rattle.rules.specs.Laws.Octets.{laid}
+use Rattle.rules.proofs.Laws.Octets.{laid}
 use Rattle.printed.specs.Text.{in_lines, length_lines}
 use Rattle.printed.proofs.Laying.{line_more, lines_done}
 use borrow.Author.Rules.{rules}

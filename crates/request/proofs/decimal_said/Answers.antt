@@ -3,7 +3,7 @@ use Prim.Native.Nat.{◌-◌, ◌^◌, ◌≤◌, ◌<◌}
 use native.Mathlib.Omega.{arith}
 use lib.ListN.{length, drop}
 use Rattle.rules.specs.Program.{decimal_said}
-use Rattle.rules.specs.Laws.Program.{decimal_from, decimal_none, decimal_some, decimal_more, decimal_low, decimal_high, decimal_big, decimal_done}
+use Rattle.rules.proofs.Laws.Program.{decimal_from, decimal_none, decimal_some, decimal_more, decimal_low, decimal_high, decimal_big, decimal_done}
 use borrow.Author.Rules.{rules}
 use Rattle.request.proofs.decimal_said.Goals as goal
 

@@ -2,7 +2,7 @@
 use mathlib.Core.Path.{sym, ap}
 use native.Mathlib.Omega.{arith}
 use lib.ListN.{length}
-use Rattle.rules.specs.Laws.Octets.{lay_nil}
+use Rattle.rules.proofs.Laws.Octets.{lay_nil}
 use Rattle.request.proofs.Entered.{is_names, names_none, names_one}
 use borrow.Author.Rules.{rules}
 use Rattle.request.proofs.id_entered.Goals as goal

@@ -5,7 +5,7 @@ use Prim.Native.Nat.{◌+◌}
 use native.Mathlib.Omega.{arith}
 use lib.ListN.{length, length-append}
 use Rattle.rules.specs.Octets.{Bytes, zeros}
-use Rattle.rules.specs.Laws.Octets.{lay_nil, lay_then}
+use Rattle.rules.proofs.Laws.Octets.{lay_nil, lay_then}
 use Rattle.request.proofs.Entered.{skipped, entered, path_all, path_short}
 use borrow.Author.Rules.{rules}
 use mathlib.Core.Bool.{not}

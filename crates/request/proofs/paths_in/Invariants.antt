@@ -6,8 +6,9 @@ use native.Mathlib.Omega.{arith}
 use lib.ListN.{length}
 use Rattle.rules.specs.Octets.{part}
 use Rattle.rules.specs.Program.{lines_of, line_said}
-use Rattle.rules.specs.Laws.Octets.{length_lay}
-use Rattle.rules.specs.Laws.Program.{lines_at, lines_all, Laying, laying_none, laying_more, laying_bytes, laying_count}
+use Rattle.rules.proofs.Laws.Octets.{length_lay}
+use Rattle.rules.specs.Laws.Program.{lines_at}
+use Rattle.rules.proofs.Laws.Program.{lines_all, Laying, laying_none, laying_more, laying_bytes, laying_count}
 use Rattle.request.specs.Answers.{listed_by, list_in}
 use Rattle.request.proofs.Turns.{listed_done, listed_more, further, behind, inside}
 use borrow.Author.Rules.{rules}

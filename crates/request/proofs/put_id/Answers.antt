@@ -1,7 +1,7 @@
 -- `put_id` meets its contract.
 use mathlib.Core.Path.{sym}
 use mathlib.Core.List.{[], ◌∷◌}
-use Rattle.rules.specs.Laws.Octets.{lay_one, lay_past}
+use Rattle.rules.proofs.Laws.Octets.{lay_one, lay_past}
 use borrow.Author.Rules.{rules}
 use Rattle.request.proofs.put_id.Goals as goal
 

@@ -4,7 +4,7 @@ use native.Mathlib.Omega.{arith}
 use lib.ListN.{length, take, drop}
 use Rattle.rules.specs.Ceilings.{reservation_ceiling}
 use Rattle.rules.specs.Reservations.{any_invalid}
-use Rattle.rules.specs.Laws.Reservations.{invalid_end}
+use Rattle.rules.proofs.Laws.Reservations.{invalid_end}
 use Rattle.reservation.specs.Made.{entries_of}
 use Rattle.reservation.proofs.Entries.{take_counted, invalid_at}
 use borrow.Author.Rules.{rules}

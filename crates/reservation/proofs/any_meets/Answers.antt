@@ -3,7 +3,8 @@ use Prim.Native.Nat.{◌-◌, ◌≤◌}
 use native.Mathlib.Omega.{arith}
 use lib.ListN.{length, take, drop}
 use Rattle.rules.specs.Ceilings.{reservation_ceiling}
-use Rattle.rules.specs.Laws.Reservations.{any_meets, meets_end}
+use Rattle.rules.specs.Laws.Reservations.{any_meets}
+use Rattle.rules.proofs.Laws.Reservations.{meets_end}
 use Rattle.reservation.specs.Made.{entry_of, entries_of}
 use Rattle.reservation.proofs.Entries.{meets_at}
 use borrow.Author.Rules.{rules}

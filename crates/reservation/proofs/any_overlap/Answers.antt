@@ -5,7 +5,7 @@ use native.Mathlib.Omega.{arith}
 use lib.ListN.{length, take, drop}
 use Rattle.rules.specs.Ceilings.{reservation_ceiling}
 use Rattle.rules.specs.Reservations.{overlapping}
-use Rattle.rules.specs.Laws.Reservations.{pairs_from, pairs_end, overlapping_pairs}
+use Rattle.rules.proofs.Laws.Reservations.{pairs_from, pairs_end, overlapping_pairs}
 use Rattle.reservation.specs.Made.{entries_of}
 use Rattle.reservation.proofs.Entries.{take_counted, pairs_at}
 use borrow.Author.Rules.{rules}

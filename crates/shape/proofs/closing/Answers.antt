@@ -1,7 +1,7 @@
 -- `closing` meets its contract.
 use mathlib.Core.Path.{refl}
 use native.Mathlib.Omega.{arith}
-use Rattle.rules.specs.Laws.Events.{closing_none, closing_some}
+use Rattle.rules.proofs.Laws.Events.{closing_none, closing_some}
 use Rattle.shape.specs.declared.Refusal.TheVariants.{Shape}
 use Rattle.shape.proofs.Steps.{stops, closes}
 use Rattle.shape.proofs.closing.Goals as goal

@@ -2,7 +2,7 @@
 use mathlib.Core.Path.{sym, ◌∙◌, subst}
 use native.Mathlib.Omega.{arith}
 use borrow.Author.Tests.{eq-eqb, ne_eqb}
-use Rattle.rules.specs.Laws.Events.{ending_none, ending_some}
+use Rattle.rules.proofs.Laws.Events.{ending_none, ending_some}
 use Rattle.rules.specs.declared.Token.{Token}
 use Rattle.shape.specs.declared.Refusal.TheVariants.{Shape}
 use Rattle.shape.specs.declared.Answer.TheVariants.{Nodes, Refused}

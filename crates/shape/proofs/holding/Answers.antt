@@ -1,7 +1,7 @@
 -- `holding` meets its contract: one refusal after the other.
 use mathlib.Core.Path.{refl, ◌∙◌}
 use native.Mathlib.Omega.{arith}
-use Rattle.rules.specs.Laws.Events.{holding_none, holding_some}
+use Rattle.rules.proofs.Laws.Events.{holding_none, holding_some}
 use Rattle.shape.specs.declared.Refusal.TheVariants.{Shape, Name}
 use Rattle.shape.proofs.Steps.{stops, stays}
 use mathlib.Core.Path.{ap}

@@ -3,7 +3,7 @@ use mathlib.Core.Path.{refl, ◌∙◌}
 use native.Mathlib.Omega.{arith}
 use borrow.Author.Tests.{eq-eqb, ne_eqb, le-leb, lt-leb}
 use Rattle.rules.specs.Ceilings.{open_ceiling, node_ceiling}
-use Rattle.rules.specs.Laws.Events.{opening_root, opening_inner}
+use Rattle.rules.proofs.Laws.Events.{opening_root, opening_inner}
 use Rattle.shape.specs.declared.Refusal.TheVariants.{Shape, Name, Deep, Many}
 use Rattle.shape.proofs.Steps.{stops, opens}
 use borrow.Author.Rules.{rules}

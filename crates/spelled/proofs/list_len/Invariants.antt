@@ -5,9 +5,9 @@ use Prim.Native.Nat.{ℕ, ◌+◌, ◌-◌, ◌*◌, ◌≤◌}
 use native.Mathlib.Omega.{arith}
 use lib.ListN.{length}
 use Rattle.rules.specs.Octets.{Bytes}
-use Rattle.rules.specs.Laws.Kept.{node_word, word_in_part, longest}
+use Rattle.rules.proofs.Laws.Kept.{node_word, word_in_part, longest}
 use Rattle.rules.specs.Laws.Tabled.{tree_of}
-use Rattle.rules.specs.Laws.Constants.{list_at_lem}
+use Rattle.rules.proofs.Laws.Constants.{list_at_lem}
 use Rattle.spelled.specs.Lists.{list_bytes}
 use Rattle.spelled.proofs.Spelt.{path_short, sum_more, sum_fits, length_more, bytes_none}
 use borrow.Author.Rules.{rules}

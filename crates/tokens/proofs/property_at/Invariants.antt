@@ -3,7 +3,7 @@ use mathlib.Core.Path.{◌≡◌, refl, sym, ◌∙◌}
 use Prim.Native.Nat.{◌-◌}
 use native.Mathlib.Omega.{arith}
 use lib.ListN.{length}
-use Rattle.rules.specs.Laws.Tokens.{item_ahead}
+use Rattle.rules.proofs.Laws.Tokens.{item_ahead}
 use Rattle.tokens.specs.Properties.{property_at}
 use Rattle.tokens.proofs.Properties.{property_stop, property_nop, property_here, property_begin, property_end}
 use borrow.Author.Rules.{rules}

@@ -1,6 +1,6 @@
 -- `guest_out` meets its contract: the guest is written where both are granted, and else nothing is done.
 use mathlib.Core.Path.{refl}
-use Rattle.rules.specs.Laws.Tests.{never}
+use Rattle.rules.proofs.Laws.Tests.{never}
 use borrow.Author.Rules.{rules}
 use Rattle.derive.proofs.written.guest_out.Goals as goal
 

@@ -4,12 +4,12 @@ use mathlib.Core.Path.{refl, sym, ap, ◌∙◌}
 use native.Mathlib.Omega.{arith}
 use lib.ListN.{length}
 use Rattle.rules.specs.Device.{wanted}
-use Rattle.rules.specs.Laws.Octets.{length_lay}
-use Rattle.rules.specs.Laws.Given.{lists_few}
+use Rattle.rules.proofs.Laws.Octets.{length_lay}
+use Rattle.rules.proofs.Laws.Given.{lists_few}
 use Rattle.rules.specs.Laws.Tabled.{tree_of}
 use Rattle.given.specs.Answers.{meaning as gmeaning}
 use Rattle.asked.specs.Answers.{meaning as ameaning}
-use Rattle.asked.specs.Judged.{checks_lists, checks-named, checks-whole}
+use Rattle.asked.proofs.Judged.{checks_lists, checks-named, checks-whole}
 use Rattle.device.proofs.Checks.{wanted_so}
 use borrow.Author.Rules.{rules}
 use Rattle.device.proofs.judged.lists.Goals as goal

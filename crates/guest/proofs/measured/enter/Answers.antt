@@ -1,7 +1,7 @@
 -- `enter` meets its contract: with room a word more, and without nothing.
 use native.Mathlib.Omega.{arith}
-use Rattle.rules.specs.Laws.Kept.{put_in_part}
-use Rattle.rules.specs.Laws.Constants.{work_words_lem, stack_at_lem}
+use Rattle.rules.proofs.Laws.Kept.{put_in_part}
+use Rattle.rules.proofs.Laws.Constants.{work_words_lem, stack_at_lem}
 use Rattle.guest.proofs.Noted.{enter_room, enter_full, space}
 use borrow.Author.Rules.{rules}
 use Rattle.guest.proofs.measured.enter.Goals as goal

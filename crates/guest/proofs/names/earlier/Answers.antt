@@ -5,7 +5,7 @@ use native.Mathlib.Omega.{arith}
 use lib.ListN.{length, take}
 use Rattle.rules.specs.Octets.{Bytes}
 use Rattle.rules.specs.Blob.{block_of}
-use Rattle.rules.specs.Laws.Tokens.{item_ahead}
+use Rattle.rules.proofs.Laws.Tokens.{item_ahead}
 use Rattle.guest.specs.Walked.{marked}
 use Rattle.guest.specs.Measured.{is_in, names_in}
 use Rattle.guest.proofs.Sifts.{names_all}

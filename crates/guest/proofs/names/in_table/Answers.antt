@@ -1,9 +1,9 @@
 use mathlib.Core.Path.{◌≡◌, refl, sym, ◌∙◌}
 use Prim.Native.Nat.{◌-◌, ◌≤◌}
 use native.Mathlib.Omega.{arith}
-use Rattle.rules.specs.Laws.Kept.{word_in_part}
+use Rattle.rules.proofs.Laws.Kept.{word_in_part}
 use Rattle.rules.specs.Events.{string_at}
-use Rattle.rules.specs.Laws.Constants.{work_words_lem, stack_at_lem}
+use Rattle.rules.proofs.Laws.Constants.{work_words_lem, stack_at_lem}
 use Rattle.guest.specs.Measured.{in_table, table_room}
 use Rattle.guest.proofs.Noted.{table_none, table_hit, table_miss, space}
 use borrow.Author.Rules.{rules}

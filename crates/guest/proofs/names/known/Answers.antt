@@ -4,7 +4,7 @@ use native.Mathlib.Omega.{arith}
 use lib.ListN.{take}
 use Rattle.rules.specs.Octets.{Bytes}
 use Rattle.rules.specs.Events.{string_at}
-use Rattle.rules.specs.Laws.Constants.{work_words_lem, stack_at_lem}
+use Rattle.rules.proofs.Laws.Constants.{work_words_lem, stack_at_lem}
 use Rattle.guest.specs.Measured.{is_in, names_in}
 use Rattle.guest.proofs.Noted.{known_table, known_not, space}
 use borrow.Author.Rules.{rules}

@@ -3,7 +3,7 @@ use mathlib.Core.Path.{sym, ap}
 use Prim.Native.Nat.{ℕ}
 use Rattle.rules.specs.Octets.{same}
 use Rattle.rules.specs.Events.{string_at}
-use Rattle.rules.specs.Laws.Octets.{eq_same}
+use Rattle.rules.proofs.Laws.Octets.{eq_same}
 use borrow.Author.Rules.{rules}
 use Rattle.guest.proofs.names.same_name.Goals as goal
 

@@ -1,7 +1,7 @@
 -- `marked` meets its contract: past the ceiling no node is marked.
 use native.Mathlib.Omega.{arith}
-use Rattle.rules.specs.Laws.Kept.{word_in_part}
-use Rattle.rules.specs.Laws.Constants.{node_ceiling_lem, marks_at_lem}
+use Rattle.rules.proofs.Laws.Kept.{word_in_part}
+use Rattle.rules.proofs.Laws.Constants.{node_ceiling_lem, marks_at_lem}
 use Rattle.guest.proofs.Marks.{mark_here, mark_past}
 use borrow.Author.Rules.{rules}
 use Rattle.guest.proofs.walk.marked.Goals as goal

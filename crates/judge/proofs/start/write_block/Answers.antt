@@ -6,8 +6,8 @@ use native.Mathlib.Omega.{arith}
 use lib.ListN.{length, take, get_or}
 use Rattle.rules.specs.Octets.{be64, zeros, lay}
 use Rattle.rules.specs.Reservations.{entry_bytes}
-use Rattle.rules.specs.Laws.Octets.{lay_nil, length_be64}
-use Rattle.rules.specs.Laws.Writer.{laid_on}
+use Rattle.rules.proofs.Laws.Octets.{lay_nil, length_be64}
+use Rattle.rules.proofs.Laws.Writer.{laid_on}
 use Rattle.reservation.specs.Made.{entries_of}
 use Rattle.judge.proofs.Starts.{nowhere, entries_more, entries_length, block_bytes}
 use borrow.Author.Rules.{rules}

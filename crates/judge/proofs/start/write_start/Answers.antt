@@ -4,8 +4,8 @@ use native.Mathlib.Omega.{arith}
 use lib.ListN.{length, take}
 use Rattle.rules.specs.Octets.{zeros}
 use Rattle.rules.specs.Reservations.{block}
-use Rattle.rules.specs.Laws.Octets.{length_zeros}
-use Rattle.rules.specs.Laws.Writer.{laid_on}
+use Rattle.rules.proofs.Laws.Octets.{length_zeros}
+use Rattle.rules.proofs.Laws.Writer.{laid_on}
 use Rattle.reservation.specs.Made.{entries_of}
 use Rattle.judge.proofs.Starts.{start_bytes_lem, counted_all}
 use borrow.Author.Rules.{rules}

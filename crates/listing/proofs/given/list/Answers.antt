@@ -4,8 +4,8 @@ use mathlib.Core.Path.{sym, ap, ◌∙◌}
 use Prim.Native.Nat.{ℕ, ◌+◌}
 use native.Mathlib.Omega.{arith}
 use lib.ListN.{get_or}
-use Rattle.rules.specs.Laws.Kept.{node_word}
-use Rattle.rules.specs.Laws.Constants.{marks_at_lem}
+use Rattle.rules.proofs.Laws.Kept.{node_word}
+use Rattle.rules.proofs.Laws.Constants.{marks_at_lem}
 use Rattle.listing.proofs.Notes.{known, unknown, gains_new, gains_known}
 use borrow.Author.Rules.{rules}
 use Rattle.listing.proofs.given.list.Goals as goal

@@ -4,8 +4,8 @@ use Prim.Native.Nat.{ℕ, ◌+◌, ◌-◌}
 use native.Mathlib.Omega.{arith}
 use lib.ListN.{get_or}
 use Rattle.rules.specs.Blob.{Block}
-use Rattle.rules.specs.Laws.Kept.{node_word}
-use Rattle.rules.specs.Laws.Constants.{stack_at_lem}
+use Rattle.rules.proofs.Laws.Kept.{node_word}
+use Rattle.rules.proofs.Laws.Constants.{stack_at_lem}
 use Rattle.listing.specs.State.{Gains}
 use Rattle.listing.specs.Given.{below_in}
 use Rattle.listing.proofs.Gained.{below_from, gains_refl, start_below, below_turn, below_all}

@@ -3,7 +3,7 @@ use Prim.Native.Nat.{◌-◌}
 use native.Mathlib.Omega.{arith}
 use lib.ListN.{length, get_or, drop}
 use Rattle.rules.specs.Blob.{Block}
-use Rattle.rules.specs.Laws.Lists.{mem_at}
+use Rattle.rules.proofs.Laws.Lists.{mem_at}
 use Rattle.listing.specs.Given.{with_below, Gathers}
 use Rattle.listing.proofs.Gained.{gathers_refl, gathers_each, gathers_all, below_alike}
 use borrow.Author.Rules.{rules}

@@ -4,8 +4,8 @@ use mathlib.Core.List.{List, [], ◌∷◌}
 use Prim.Native.Nat.{ℕ, ◌+◌}
 use native.Mathlib.Omega.{arith}
 use Rattle.rules.specs.Octets.{lay}
-use Rattle.rules.specs.Laws.Kept.{node_word}
-use Rattle.rules.specs.Laws.Constants.{marks_at_lem, list_at_lem}
+use Rattle.rules.proofs.Laws.Kept.{node_word}
+use Rattle.rules.proofs.Laws.Constants.{marks_at_lem, list_at_lem}
 use Rattle.listing.specs.State.{entered}
 use borrow.Author.Rules.{rules}
 use Rattle.listing.proofs.note.enter.Goals as goal

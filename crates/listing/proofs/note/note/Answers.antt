@@ -6,8 +6,8 @@ use native.Mathlib.Omega.{arith}
 use lib.ListN.{get_or}
 use Rattle.rules.specs.Space.{stack_at}
 use Rattle.rules.specs.Octets.{lay}
-use Rattle.rules.specs.Laws.Kept.{node_word}
-use Rattle.rules.specs.Laws.Constants.{marks_at_lem, stack_at_lem}
+use Rattle.rules.proofs.Laws.Kept.{node_word}
+use Rattle.rules.proofs.Laws.Constants.{marks_at_lem, stack_at_lem}
 use Rattle.listing.specs.State.{entered}
 use Rattle.listing.proofs.Notes.{known, unknown, stacks_known, stacks-new}
 use borrow.Author.Rules.{rules}

@@ -7,8 +7,8 @@ use lib.ListN.{get_or}
 use borrow.Author.Tests.{not-true, not-false}
 use Rattle.rules.specs.Octets.{lay}
 use Rattle.rules.specs.Space.{list_at}
-use Rattle.rules.specs.Laws.Kept.{node_word}
-use Rattle.rules.specs.Laws.Constants.{list_at_lem}
+use Rattle.rules.proofs.Laws.Kept.{node_word}
+use Rattle.rules.proofs.Laws.Constants.{list_at_lem}
 use Rattle.listing.proofs.Sieved.{sifts-out, sifts-in}
 use borrow.Author.Rules.{rules}
 use Rattle.listing.proofs.sift.sift_one.Goals as goal

@@ -4,7 +4,7 @@ use Prim.Native.Nat.{◌-◌, ◌≤◌}
 use native.Mathlib.Omega.{arith}
 use lib.ListN.{length}
 use Rattle.rules.specs.Blob.{block_of}
-use Rattle.rules.specs.Laws.Kept.{only_kept}
+use Rattle.rules.proofs.Laws.Kept.{only_kept}
 use Rattle.tokens.proofs.Properties.{behind_inside, here_ahead}
 use Rattle.listing.specs.State.{Stacks}
 use Rattle.listing.proofs.Visits.{targets_of, targets_behind, visit_first, visit_stop, visit_on}

@@ -1,7 +1,7 @@
 -- `nth_node` meets its contract.
 use native.Mathlib.Omega.{arith}
-use Rattle.rules.specs.Laws.Kept.{node_word, word_in_part}
-use Rattle.rules.specs.Laws.Constants.{stack_at_lem}
+use Rattle.rules.proofs.Laws.Kept.{node_word, word_in_part}
+use Rattle.rules.proofs.Laws.Constants.{stack_at_lem}
 use borrow.Author.Rules.{rules}
 use Rattle.order.proofs.sorted.nth_node.Goals as goal
 

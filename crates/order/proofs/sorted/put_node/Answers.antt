@@ -1,7 +1,7 @@
 -- `put_node` meets its contract.
 use native.Mathlib.Omega.{arith}
-use Rattle.rules.specs.Laws.Kept.{node_word, put_in_part}
-use Rattle.rules.specs.Laws.Constants.{stack_at_lem}
+use Rattle.rules.proofs.Laws.Kept.{node_word, put_in_part}
+use Rattle.rules.proofs.Laws.Constants.{stack_at_lem}
 use borrow.Author.Rules.{rules}
 use Rattle.order.proofs.sorted.put_node.Goals as goal
 

@@ -3,7 +3,7 @@ use Prim.Native.Nat.{ℕ, ◌-◌, ◌≤◌}
 use native.Mathlib.Omega.{arith}
 use lib.ListN.{length}
 use Rattle.rules.specs.Tree.{words_judged}
-use Rattle.rules.specs.Laws.Tokens.{item_ahead}
+use Rattle.rules.proofs.Laws.Tokens.{item_ahead}
 use Rattle.rules.specs.Laws.Events.{events_at}
 use Rattle.doubled.specs.Passes.{nodes_in}
 use Rattle.passes.proofs.Watched.{words_rest, words_start, words_stop, words_fault, words_go}

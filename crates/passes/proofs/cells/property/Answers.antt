@@ -1,7 +1,7 @@
 -- `property` meets its contract.
 use borrow.Author.Tests.{eq-eqb, ne_eqb}
 use Rattle.passes.specs.Cells.{on_property}
-use Rattle.rules.specs.Laws.Tests.{and_none}
+use Rattle.rules.proofs.Laws.Tests.{and_none}
 use borrow.Author.Rules.{rules}
 use Rattle.passes.proofs.cells.property.Goals as goal
 

@@ -2,7 +2,7 @@
 use mathlib.Core.Path.{sym, ◌∙◌}
 use Rattle.rules.specs.Octets.{ascii}
 use Rattle.rules.specs.Tree.{among, cells_names}
-use Rattle.rules.specs.Laws.Tests.{or_nothing}
+use Rattle.rules.proofs.Laws.Tests.{or_nothing}
 use Rattle.passes.proofs.Watched.{none_of}
 use borrow.Author.Rules.{rules}
 use Rattle.passes.proofs.words.is_cells_name.Goals as goal

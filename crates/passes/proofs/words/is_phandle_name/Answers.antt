@@ -1,7 +1,7 @@
 -- `is_phandle_name` meets its contract: the two names.
 use Rattle.rules.specs.Octets.{ascii}
 use Rattle.rules.specs.Tree.{among, phandle_names}
-use Rattle.rules.specs.Laws.Tests.{or_nothing}
+use Rattle.rules.proofs.Laws.Tests.{or_nothing}
 use borrow.Author.Rules.{rules}
 use Rattle.passes.proofs.words.is_phandle_name.Goals as goal
 

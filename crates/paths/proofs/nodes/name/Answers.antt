@@ -6,7 +6,7 @@ use Rattle.rules.specs.Blob.{block_of}
 use Rattle.rules.specs.Events.{string_at}
 use Rattle.rules.specs.Tree.{Node}
 use Rattle.rules.specs.Laws.Constants.{NODE_WORDS}
-use Rattle.rules.specs.Laws.Tabled.{node_in_lem, node_out}
+use Rattle.rules.proofs.Laws.Tabled.{node_in_lem, node_out}
 use borrow.Author.Rules.{rules}
 use Rattle.paths.proofs.nodes.name.Goals as goal
 

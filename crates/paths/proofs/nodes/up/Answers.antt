@@ -1,7 +1,7 @@
 -- `up` meets its contract.
 use mathlib.Core.Path.{sym, ap, ◌∙◌}
 use Rattle.rules.specs.Tree.{Node}
-use Rattle.rules.specs.Laws.Tabled.{node_in_lem, node_out}
+use Rattle.rules.proofs.Laws.Tabled.{node_in_lem, node_out}
 use borrow.Author.Rules.{rules}
 use Rattle.paths.proofs.nodes.up.Goals as goal
 

@@ -6,7 +6,8 @@ use native.Mathlib.Omega.{arith}
 use lib.Dec.{eqb}
 use Rattle.rules.specs.Octets.{Bytes, before}
 use Rattle.rules.specs.Blob.{block_of}
-use Rattle.rules.specs.Laws.Tabled.{tree_in, tree_length}
+use Rattle.rules.specs.Laws.Tabled.{tree_in}
+use Rattle.rules.proofs.Laws.Tabled.{tree_length}
 use Rattle.paths.specs.Order.{slash}
 use Rattle.paths.proofs.Ways.{order_above, order_below, order_names}
 use Rattle.paths.proofs.order.path_before.Goals as goal

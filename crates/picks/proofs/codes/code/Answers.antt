@@ -9,8 +9,8 @@ use Rattle.rules.specs.Copy.{null, is_cpus, stranger}
 use Rattle.rules.specs.Space.{marks_at}
 use Rattle.rules.specs.Blob.{block_of}
 use Rattle.rules.specs.Laws.Tabled.{tree_in}
-use Rattle.rules.specs.Laws.Kept.{node_word, word_in_part}
-use Rattle.rules.specs.Laws.Constants.{marks_at_lem}
+use Rattle.rules.proofs.Laws.Kept.{node_word, word_in_part}
+use Rattle.rules.proofs.Laws.Constants.{marks_at_lem}
 use Rattle.picks.specs.Marks.{marked}
 use Rattle.picks.specs.Turns.{parent_code}
 use Rattle.picks.proofs.Coding.{null_yes, null_no, of_cpus_none, of_cpus, of_stranger, of_friend, of_dropped, of_outside}

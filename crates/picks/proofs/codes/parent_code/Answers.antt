@@ -1,8 +1,8 @@
 -- `parent_code` meets its contract.
 use mathlib.Core.Path.{◌∙◌}
 use native.Mathlib.Omega.{arith}
-use Rattle.rules.specs.Laws.Kept.{node_word, word_in_part}
-use Rattle.rules.specs.Laws.Constants.{stack_at_lem}
+use Rattle.rules.proofs.Laws.Kept.{node_word, word_in_part}
+use Rattle.rules.proofs.Laws.Constants.{stack_at_lem}
 use Rattle.picks.proofs.Coding.{parent_none, parent_some}
 use borrow.Author.Rules.{rules}
 use Rattle.picks.proofs.codes.parent_code.Goals as goal

@@ -1,5 +1,5 @@
 -- `ways` meets its contract.
-use Rattle.rules.specs.Laws.Constants.{node_ceiling_lem, marks_at_lem, names_at_lem}
+use Rattle.rules.proofs.Laws.Constants.{node_ceiling_lem, marks_at_lem, names_at_lem}
 use Rattle.picks.proofs.Places.{cleared_as}
 use Rattle.picks.proofs.Marking.{cleared_keeps, cleared_small, cleared_none_marked, cleared_noted}
 use borrow.Author.Rules.{rules}

@@ -1,7 +1,7 @@
 -- `is_phandle_property` meets its contract: the names, then the endings, then the part.
 use mathlib.Core.Path.{refl}
 use Rattle.rules.specs.Octets.{ascii}
-use Rattle.rules.specs.Laws.Tests.{and_nothing, and_none}
+use Rattle.rules.proofs.Laws.Tests.{and_nothing, and_none}
 use Rattle.references.proofs.Names.{in_parts}
 use Rattle.references.proofs.rows.is_phandle_property.Goals as goal
 

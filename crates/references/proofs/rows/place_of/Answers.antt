@@ -2,7 +2,7 @@ use mathlib.Core.Path.{◌≡◌}
 use Prim.Native.Nat.{◌+◌, ◌-◌, ◌≤◌}
 use native.Mathlib.Omega.{arith}
 use lib.ListN.{length, drop}
-use Rattle.rules.specs.Laws.Given.{given_inside}
+use Rattle.rules.proofs.Laws.Given.{given_inside}
 use Rattle.references.specs.Rows.{cut, place_in}
 use Rattle.references.proofs.Names.{walk_hit, walk_on, walk_end}
 use borrow.Author.Rules.{rules}

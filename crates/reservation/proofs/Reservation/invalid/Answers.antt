@@ -3,7 +3,7 @@ use Prim.Native.Nat.{◌+◌, ◌-◌, ◌^◌}
 use native.Mathlib.Omega.{arith}
 use borrow.Author.Tests.{eq-eqb, ne_eqb}
 use Rattle.rules.specs.Reservations.{invalid}
-use Rattle.rules.specs.Laws.Tests.{ltb_leb}
+use Rattle.rules.proofs.Laws.Tests.{ltb_leb}
 use borrow.Author.Rules.{rules}
 use Rattle.reservation.proofs.Reservation.invalid.Goals as goal
 

@@ -2,8 +2,8 @@
 use mathlib.Core.Path.{sym, ◌∙◌}
 use Prim.Native.Nat.{◌+◌, ◌-◌}
 use native.Mathlib.Omega.{arith}
-use Rattle.rules.specs.Laws.Tests.{ltb_cong}
-use Rattle.rules.specs.Laws.Reservations.{meets_up, meets_down}
+use Rattle.rules.proofs.Laws.Tests.{ltb_cong}
+use Rattle.rules.proofs.Laws.Reservations.{meets_up, meets_down}
 use Rattle.reservation.specs.Made.{entry_of}
 use borrow.Author.Rules.{rules}
 use Rattle.reservation.proofs.Reservation.meets.Goals as goal

@@ -4,7 +4,7 @@ use native.Mathlib.Omega.{arith}
 use lib.ListN.{length}
 use Rattle.rules.specs.Outcome.{refuses, passes}
 use Rattle.rules.specs.Writer.{State, begin_bytes, begin_judged, begin_node, begin_node_data, begun}
-use Rattle.rules.specs.Laws.Writer.{length_begin}
+use Rattle.rules.proofs.Laws.Writer.{length_begin}
 use Rattle.judge.specs.Meaning.{number_of}
 use Rattle.judge.specs.Judged.{verdict_of}
 use Rattle.writer.specs.Meaning.{state_of}

@@ -4,7 +4,7 @@ use native.Mathlib.Omega.{arith}
 use lib.ListN.{length}
 use Rattle.rules.specs.Outcome.{refuses, passes}
 use Rattle.rules.specs.Writer.{State, end_bytes, end_judged, end_node, end_node_data, closed_node}
-use Rattle.rules.specs.Laws.Writer.{length_end}
+use Rattle.rules.proofs.Laws.Writer.{length_end}
 use Rattle.judge.specs.Meaning.{number_of}
 use Rattle.judge.specs.Judged.{verdict_of}
 use Rattle.writer.specs.Meaning.{state_of}

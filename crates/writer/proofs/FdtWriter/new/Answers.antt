@@ -7,7 +7,7 @@ use native.Mathlib.Omega.{arith}
 use lib.Dec.{ltb}
 use lib.ListN.{length}
 use Rattle.rules.specs.Octets.{zeros, lay}
-use Rattle.rules.specs.Laws.Octets.{lay_nil}
+use Rattle.rules.proofs.Laws.Octets.{lay_nil}
 use Rattle.rules.specs.Writer.{fresh, room}
 use Rattle.writer.proofs.Starts.{start_none, none_short, none_fits, granted_none, granted_all, start_refused, start_done}
 use borrow.Author.Rules.{rules}

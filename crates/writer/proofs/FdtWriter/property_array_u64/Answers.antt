@@ -2,7 +2,7 @@
 use mathlib.Core.Bool.{false}
 use lib.ListN.{length}
 use Rattle.rules.specs.Octets.{words64}
-use Rattle.rules.specs.Laws.Writer.{length_words64}
+use Rattle.rules.proofs.Laws.Writer.{length_words64}
 use Rattle.writer.specs.Meaning.{state_of}
 use Rattle.writer.proofs.Properties.{at_place, size_of, property_refused, property_done}
 use borrow.Author.Rules.{rules}

@@ -2,7 +2,7 @@
 use native.Mathlib.Omega.{arith}
 use lib.ListN.{length}
 use Rattle.rules.specs.Octets.{ascii}
-use Rattle.rules.specs.Laws.Writer.{words32_one}
+use Rattle.rules.proofs.Laws.Writer.{words32_one}
 use Rattle.writer.specs.Meaning.{state_of}
 use Rattle.writer.proofs.Phandles.{at_noted, phandle_refused, phandle_done}
 use borrow.Author.Rules.{rules}

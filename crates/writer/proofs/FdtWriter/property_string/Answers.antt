@@ -1,7 +1,7 @@
 -- `FdtWriter::property_string` meets its contract.
 use lib.ListN.{length}
 use Rattle.rules.specs.Octets.{has_nul, closed}
-use Rattle.rules.specs.Laws.Writer.{length_closed}
+use Rattle.rules.proofs.Laws.Writer.{length_closed}
 use Rattle.writer.specs.Meaning.{state_of}
 use Rattle.writer.proofs.Properties.{at_place, size_of, property_refused, property_done}
 use borrow.Author.Rules.{rules}

@@ -4,8 +4,8 @@ use native.Mathlib.Omega.{arith}
 use native.Mathlib.Nat.{add-zero}
 use borrow.Author.Tests.{lt-ltb, le-ltb}
 use Rattle.rules.specs.Ceilings.{blob_ceiling}
-use Rattle.rules.specs.Laws.Octets.{lay_nil}
-use Rattle.rules.specs.Laws.Writer.{length_closed}
+use Rattle.rules.proofs.Laws.Octets.{lay_nil}
+use Rattle.rules.proofs.Laws.Writer.{length_closed}
 use borrow.Author.Rules.{rules}
 use Rattle.writer.proofs.FdtWriter.with_property.Goals as goal
 
