@@ -41,4 +41,4 @@ pub shape_of-work : goal.shape_of-work
 shape_of-work c = (rest_is (block_of c.args.place c.args.structure.now c.args.strings.now) c.args.count (record { conf = c.args.conf.now; excl = c.args.excl.now; ids = c.args.ids.now }) c.args.work.now c.requires.asked c.requires.whole _ c.marked-n.result c.marked-n.ensures _ c.measure-size.ensures.kept).0
 
 pub returns : goal.returns
-returns c = writes-both (block_of c.args.place c.args.structure.now c.args.strings.now) c.args.count (record { conf = c.args.conf.now; excl = c.args.excl.now; ids = c.args.ids.now }) c.args.work.now c.requires.asked c.requires.whole _ c.marked-n.result c.marked-n.ensures _ c.measure-size.ensures.kept c.measure-size.result (c.measure-size.ensures.sieved c.args.place (ready_first (block_of c.args.place c.args.structure.now c.args.strings.now) c.args.count (record { conf = c.args.conf.now; excl = c.args.excl.now; ids = c.args.ids.now }) c.args.work.now c.requires.asked c.requires.whole _ c.marked-n.result c.marked-n.ensures)) c.list_len-listed.result c.total-copied.result (c.list_len-listed.ensures c.args.strings.now) c.total-copied.ensures c.args.list.now c.args.guest.now (omega (arith, c.if-list-listed.false)) c.room-most.result c.room-most.ensures (omega (arith, c.if-most-copied.false)) _ _ (c.list_out.ensures c.args.strings.now) (c.guest_out.ensures.written (both_granted (length c.args.list.now) c.list_len-listed.result c.room-most.result c.total-copied.result c.granted-both.result c.granted-both.ensures (omega (arith, c.if-list-listed.false)) (omega (arith, c.if-most-copied.false))) c.args.place (ready (block_of c.args.place c.args.structure.now c.args.strings.now) c.args.count (record { conf = c.args.conf.now; excl = c.args.excl.now; ids = c.args.ids.now }) c.args.work.now c.requires.asked c.requires.whole _ c.marked-n.result c.marked-n.ensures _ c.measure-size.ensures.kept.size c.measure-size.ensures.kept)) _ refl
+returns c = writes-both (block_of c.args.place c.args.structure.now c.args.strings.now) c.args.count (record { conf = c.args.conf.now; excl = c.args.excl.now; ids = c.args.ids.now }) c.args.work.now c.requires.asked c.requires.whole _ c.marked-n.result c.marked-n.ensures _ c.measure-size.ensures.kept c.measure-size.result (c.measure-size.ensures.sieved c.args.place (ready_first (block_of c.args.place c.args.structure.now c.args.strings.now) c.args.count (record { conf = c.args.conf.now; excl = c.args.excl.now; ids = c.args.ids.now }) c.args.work.now c.requires.asked c.requires.whole _ c.marked-n.result c.marked-n.ensures)) c.list_len-listed.result c.total-copied.result (c.list_len-listed.ensures c.args.strings.now) c.total-copied.ensures c.args.list.now c.args.guest.now (omega (arith, c.if-list-listed.false)) c.room-most.result c.room-most.ensures (omega (arith, c.if-most-copied.false)) _ _ (c.list_out.ensures c.args.strings.now) (c.guest_out.ensures.written (both_granted (length c.args.list.now) c.list_len-listed.result c.room-most.result c.total-copied.result c.granted-both.result c.granted-both.ensures (omega (arith, c.if-list-listed.false)) (omega (arith, c.if-most-copied.false))) c.args.place (ready (block_of c.args.place c.args.structure.now c.args.strings.now) c.args.count (record { conf = c.args.conf.now; excl = c.args.excl.now; ids = c.args.ids.now }) c.args.work.now c.requires.asked c.requires.whole _ c.marked-n.result c.marked-n.ensures _ c.measure-size.ensures.kept.size c.measure-size.ensures.kept.before)) _ refl
