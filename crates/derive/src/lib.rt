@@ -19,7 +19,7 @@ use rules::{ENTRY_CEILING, WORK_WORDS};
 use written::written;
 
 // Why nothing is derived, in the order in which it is judged.
-#[derive(Drop)]
+#[derive(Clone, Copy)]
 pub enum Refusal {
     // 40: the work space has fewer than 16,384 words.
     NoSpace,

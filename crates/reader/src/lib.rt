@@ -18,7 +18,7 @@ use header::{Head, Parts};
 use rules::WORK_WORDS;
 
 // Why a blob is refused, in the order in which it is judged. `at` is the blob offset of the first offending token.
-#[derive(Drop)]
+#[derive(Clone, Copy)]
 pub enum Refusal {
     // 40: the work space has fewer than 16,384 words.
     NoSpace,
