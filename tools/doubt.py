@@ -48,14 +48,16 @@ def refused(lines):
     """The functions that these lines refuse for their own sake: name, and whether only a name that is gone is at fault."""
     found = {}
     goals = 0
+    errors = [m.group(1, 3) for m in map(TOLD.match, lines) if m and m.group(2)]
+    lemmas = any(path.count("/") == 1 and not NAMES.search(text) for path, text in errors)
     for line in lines:
         told = TOLD.match(line)
         goals += bool(told and line.startswith("note: ") and told.group(1).startswith("src/"))
         said = SAID.match(line)
         if said and REFUSED.match(said.group(2)):
             folder = f"proofs/{'/'.join(said.group(1).split('::')[1:])}/"
-            errors = [m.group(3) for m in map(TOLD.match, lines) if m and m.group(2) and m.group(1).startswith(folder)]
-            found[said.group(1)] = not goals and bool(errors) and all(map(NAMES.search, errors))
+            own = [text for path, text in errors if path.startswith(folder)]
+            found[said.group(1)] = not goals and not lemmas and bool(own) and all(map(NAMES.search, own))
         if said:
             goals = 0
     return found
