@@ -1,10 +1,10 @@
 #!/usr/bin/env python3
 """doubt.py [--in FOLDER] [CRATE | CRATE/NAME ...]: tries the wrong programs that crates/*/doubts hold, each in the form of a must-fail
 edit, and says of each whether the prover refuses it. The gate tries the edits under must-fail; doubts has the others, so that the gate
-stays short. Each crate is checked over what was checked before (rt dev), several edits at once where no changed function calls another,
+stays short. Each crate is checked over what was checked before (rt check), several edits at once where no changed function calls another,
 in a copy of the repository: a temporary one, or FOLDER, which stays, so that the next run is short, and whose folder `said` has what the
-prover said. Exit status 1 where one is not refused, or a crate is refused as it stands. Run from the root of the repository, after rt
-check.
+prover said. Of an edit that is refused only since a proof file names what it took away, which says little of the contract, it says so.
+Exit status 1 where one is not refused, or a crate is refused as it stands. Run from the root of the repository, after rt check.
 doubt.py --few: the public functions of the libraries whose text fewer than two wrong programs (of must-fail or doubts) change."""
 import glob
 import os
@@ -14,8 +14,14 @@ import subprocess
 import sys
 import tempfile
 
-# What the prover says of a function that is refused for its own sake: by its proof file, or by the search that stands for one.
-REFUSED = re.compile(r"fn (\S+): (?:not proved$|no proof: .* does not close )")
+# What the prover says of a function: that it is proved, or how it is refused.
+SAID = re.compile(r"fn ([\w:]+): (.*)")
+# How it refuses a function for its own sake: by its proof files, or by the search that stands for one.
+REFUSED = re.compile(r"not proved|no proof: (?!it calls )")
+# What it says of a place in the sources or in a proof: an error, or a goal that is left.
+TOLD = re.compile(r"(?:note: )?(?:\./)?(\S+?):\d+:\d+: (error: )?(.*)")
+# How a proof file is at fault that names what a function no longer has.
+NAMES = re.compile(r"has no field|is not in scope|has no `|was not admitted")
 
 
 def pairs(edit):
@@ -32,20 +38,53 @@ def pairs(edit):
 
 def said_of(root, crate, name):
     """What the prover says of the crate as it stands in the copy, in lines."""
-    ran = subprocess.run(["rt", "dev", crate], cwd=root, capture_output=True, text=True)
+    ran = subprocess.run(["rt", "check"], cwd=os.path.join(root, "crates", crate), capture_output=True, text=True)
     os.makedirs(os.path.join(root, "said"), exist_ok=True)
     open(os.path.join(root, "said", f"{crate}.{name}"), "w", encoding="utf8").write(ran.stdout + ran.stderr)
     return (ran.stdout + ran.stderr).split("\n")
 
 
-def verdict(lines):
+def refused(lines):
+    """The functions that these lines refuse for their own sake: name, and whether only a name that is gone is at fault."""
+    found = {}
+    goals = 0
+    errors = [m.group(1, 3) for m in map(TOLD.match, lines) if m and m.group(2)]
+    lemmas = any(path.count("/") == 1 and not NAMES.search(text) for path, text in errors)
+    for line in lines:
+        told = TOLD.match(line)
+        goals += bool(told and line.startswith("note: ") and told.group(1).startswith("src/"))
+        said = SAID.match(line)
+        if said and REFUSED.match(said.group(2)):
+            folder = f"proofs/{'/'.join(said.group(1).split('::')[1:])}/"
+            own = [text for path, text in errors if path.startswith(folder)]
+            found[said.group(1)] = not goals and not lemmas and bool(own) and all(map(NAMES.search, own))
+        if said:
+            goals = 0
+    return found
+
+
+def said_as(function, by_name):
+    return f"refused ({function}{', by a name that is gone' if by_name else ''})"
+
+
+def unread(line, changed):
+    """Whether the prover could not read the text of this line: of the sources, or of a file that the edit changes."""
+    told = TOLD.match(line)
+    if not told or not told.group(2) or not (told.group(1) in changed or told.group(1).startswith(("src/", "specs/"))):
+        return False
+    of, said = re.match(r"(`[^`]*`: )?(.*)", told.group(3)).groups()
+    return not of or bool(re.search(r"is not in scope|has no field|is no name|operand is missing|expected the end|cannot continue", re.sub("`[^`]*`", "", said)))
+
+
+def verdict(lines, changed=()):
     """What these lines come to: 'refused', 'proved' or why the prover could not tell."""
-    if any(line.startswith("logic=not-proved") for line in lines):
-        first = [m.group(1) for m in map(REFUSED.match, lines) if m]
-        return "refused" + (f" ({first[0]})" if first else "")
+    bad = [line for line in lines if unread(line, changed)]
+    if any(line.startswith("logic=not-proved") for line in lines) and not bad:
+        first = next(iter(refused(lines).items()), None)
+        return said_as(*first) if first else "refused"
     if any(line.startswith("logic=proved") for line in lines):
         return "proved"
-    return "BAD: it did not reach the prover: " + next((x for x in lines if "error" in x), "")
+    return "BAD: it did not reach the prover: " + next(iter(bad or [x for x in lines if "error" in x]), "")
 
 
 def applied(root, crate, edits, name):
@@ -69,7 +108,7 @@ def applied(root, crate, edits, name):
 def alone(root, crate, edit):
     """What the prover says of the crate with this edit, or what is wrong with the edit."""
     said = applied(root, crate, [edit], label(edit))
-    said = said if isinstance(said, str) else verdict(said)
+    said = said if isinstance(said, str) else verdict(said, {file for file, _, _ in pairs(edit)})
     return "NOT REFUSED" if said == "proved" else said
 
 
@@ -121,9 +160,9 @@ def tried_crate(root, crate, edits):
         lines = applied(root, crate, one, f"round{i}")
         for edit, (start, name) in one.items():
             named = re.compile(rf"{start}::(\w+::)?{name}")
-            found = [m.group(1) for m in map(REFUSED.match, lines) if m] if isinstance(lines, list) else []
-            if any(map(named.fullmatch, found)):
-                print(f"{crate}/{label(edit)}: refused ({start}::{name})", flush=True)
+            found = [it for it in refused(lines).items() if named.fullmatch(it[0])] if isinstance(lines, list) else []
+            if found:
+                print(f"{crate}/{label(edit)}: {said_as(*found[0])}", flush=True)
             else:
                 left.append(edit)
     for edit in left:
@@ -135,12 +174,15 @@ def tried_crate(root, crate, edits):
 
 def tried_all(root, wanted):
     """Tries what is wanted in a copy of the repository at root, and answers how many faults there were."""
-    shutil.rmtree(os.path.join(root, "crates"), ignore_errors=True)
-    shutil.copytree("crates", os.path.join(root, "crates"), symlinks=True)
     shutil.copy("crates.txt", root)
-    if not os.path.isdir(os.path.join(root, "target")):
-        for part in ("rlib", "stamp", "log"):
-            shutil.copytree(f"target/{part}", os.path.join(root, "target", part), symlinks=True)
+    for crate in os.listdir("crates"):
+        # what an earlier run checked there stays
+        to = os.path.join(root, "crates", crate)
+        kept = os.path.isdir(os.path.join(to, "out"))
+        for part in os.listdir(to) if os.path.isdir(to) else []:
+            if part != "out":
+                shutil.rmtree(os.path.join(to, part)) if os.path.isdir(os.path.join(to, part)) else os.remove(os.path.join(to, part))
+        shutil.copytree(f"crates/{crate}", to, symlinks=True, dirs_exist_ok=True, ignore=shutil.ignore_patterns("out") if kept else None)
     faults = 0
     for crate in dict.fromkeys(one.split("/")[0] for one in wanted):
         said = verdict(said_of(root, crate, ""))
