@@ -47,14 +47,12 @@ fn event(digest: u32, structure: &[u8], names: &[u8], kind: Kind, at: usize) -> 
 fn digest(structure: &[u8], names: &[u8]) -> u32 {
     let mut h: u32 = 0;
     let mut at = 0;
-    let mut left = structure.len();
-    while left > 0 {
+    for _ in 0..structure.len() {
         let Token::Item { kind, next } = tokens::token_at(structure, at) else {
             return h;
         };
         h = event(h, structure, names, kind, at);
         at = next;
-        left -= 1;
     }
     h
 }
@@ -78,8 +76,7 @@ fn same_pair(a: &[u8], i: usize, b: &[u8], j: usize) -> bool {
 fn same_reservations(a: &[u8], b: &[u8]) -> bool {
     let mut i = field(a, 16);
     let mut j = field(b, 16);
-    let mut left = a.len();
-    while left > 0 {
+    for _ in 0..a.len() {
         if !same_pair(a, i, b, j) {
             return false;
         }
@@ -88,7 +85,6 @@ fn same_reservations(a: &[u8], b: &[u8]) -> bool {
         }
         i = up(i, 16);
         j = up(j, 16);
-        left -= 1;
     }
     false
 }

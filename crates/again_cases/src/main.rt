@@ -9,8 +9,10 @@ mod rewrite;
 mod told;
 
 use cases::{up, within};
-use libc::{STDIN_FILENO, STDOUT_FILENO};
 use reader::Answer;
+use std::io;
+use std::io::{Read, Write};
+use streams::read_full;
 use writer::Written;
 
 // Room for the longest blob, and for the reader.
@@ -32,16 +34,16 @@ fn number(s: &[u8; HEAD], at: usize) -> usize {
 }
 
 // Reads n bytes, or as many as there is room for, and answers how many that is.
-fn take(into: &mut [u8], n: usize) -> usize {
+fn take<R: Read>(input: &mut R, into: &mut [u8], n: usize) -> io::Result<usize> {
     let m = within(n, into);
-    io::read_full(STDIN_FILENO, &mut into[..m]);
-    m
+    read_full(input, &mut into[..m])?;
+    Ok(m)
 }
 
 // Reads n bytes to a place, as `take` does.
-fn take_at(into: &mut [u8], place: usize, n: usize) -> usize {
+fn take_at<R: Read>(input: &mut R, into: &mut [u8], place: usize, n: usize) -> io::Result<usize> {
     let at = within(place, into);
-    take(&mut into[at..], n)
+    take(input, &mut into[at..], n)
 }
 
 fn read(blob: &[u8]) -> Answer {
@@ -50,73 +52,99 @@ fn read(blob: &[u8]) -> Answer {
 }
 
 // What the second reading answers of the blob that was written.
-fn judge(blob: &[u8], second: &[u8], count: usize) {
+fn judge<W: Write>(out: &mut W, blob: &[u8], second: &[u8], count: usize) -> io::Result<()> {
     match read(second) {
-        Answer::Refused(refusal) => told::refused(refusal),
-        Answer::Nodes(again) => told::verdict(count == again && compare::same(blob, second)),
+        Answer::Refused(refusal) => told::refused(out, refusal),
+        Answer::Nodes(again) => told::verdict(out, count == again && compare::same(blob, second)),
     }
 }
 
 // Prints what came of the second blob.
-fn written(label: &[u8], blob: &[u8], count: usize, second: &[u8]) {
-    told::length(second.len());
-    told::digests(compare::events(blob), compare::events(second));
-    judge(blob, second, count);
+fn written<W: Write>(
+    out: &mut W,
+    label: &[u8],
+    blob: &[u8],
+    count: usize,
+    second: &[u8],
+) -> io::Result<()> {
+    told::length(out, second.len())?;
+    told::digests(out, compare::events(blob), compare::events(second))?;
+    judge(out, blob, second, count)?;
     if second.len() <= SHOWN {
-        told::shown(label, second);
+        told::shown(out, label, second)?;
     }
+    Ok(())
 }
 
 // Writes an accepted blob again, with no more than `room` bytes lent for it, and prints what came of it.
-fn trip(label: &[u8], blob: &[u8], count: usize, room: usize, data: &mut [u8]) {
-    told::nodes(count);
+fn trip<W: Write>(
+    out: &mut W,
+    label: &[u8],
+    blob: &[u8],
+    count: usize,
+    room: usize,
+    data: &mut [u8],
+) -> io::Result<()> {
+    told::nodes(out, count)?;
     let m = within(room, data);
     match rewrite::again(blob, &mut data[..m]) {
-        Written::Refused(_, error) => {
-            told::stopped(error);
-        }
-        Written::Done(w) => {
-            written(label, blob, count, octets::part(data, 0, w.data_len));
-        }
+        Written::Refused(_, error) => told::stopped(out, error),
+        Written::Done(w) => { written(out, label, blob, count, octets::part(data, 0, w.data_len)) }
     }
 }
 
-fn run(label: &[u8], blob: &[u8], room: usize, data: &mut [u8]) {
-    io::write_all(STDOUT_FILENO, label);
+fn run<W: Write>(
+    out: &mut W,
+    label: &[u8],
+    blob: &[u8],
+    room: usize,
+    data: &mut [u8],
+) -> io::Result<()> {
+    out.write_all(label)?;
     match read(blob) {
-        Answer::Refused(refusal) => told::refused(refusal),
-        Answer::Nodes(count) => trip(label, blob, count, room, data),
+        Answer::Refused(refusal) => told::refused(out, refusal),
+        Answer::Nodes(count) => trip(out, label, blob, count, room, data),
     }
 }
 
 // One case; false where there is none left.
-fn next(blob: &mut [u8; BLOB], data: &mut [u8; BLOB]) -> bool {
+fn next<R: Read, W: Write>(
+    input: &mut R,
+    out: &mut W,
+    blob: &mut [u8; BLOB],
+    data: &mut [u8; BLOB],
+) -> io::Result<bool> {
     let mut head = [0u8; HEAD];
-    let got = io::read_full(STDIN_FILENO, &mut head);
+    let got = read_full(input, &mut head)?;
     if got < HEAD {
-        return false;
+        return Ok(false);
     }
     let mut label = [0u8; LABEL];
-    let text = take(&mut label, number(&head, 0));
-    let front = take(blob, number(&head, 4));
+    let text = take(input, &mut label, number(&head, 0))?;
+    let front = take(input, blob, number(&head, 4))?;
     let zeros = number(&head, 8);
     octets::put_zeros(blob, front, zeros);
     let place = up(front, zeros);
-    let rest = take_at(blob, place, number(&head, 12));
+    let rest = take_at(input, blob, place, number(&head, 12))?;
     run(
+        out,
         octets::part(&label, 0, text),
         octets::part(blob, 0, up(place, rest)),
         number(&head, 16),
         data,
-    );
-    true
+    )?;
+    Ok(true)
 }
 
-fn main() {
+fn main(rt: HostRuntime) -> io::Result<()> {
     let mut blob = [0u8; BLOB];
     let mut data = [0u8; BLOB];
-    let mut turns: u32 = 100000;
-    while turns > 0 && next(&mut blob, &mut data) {
-        turns -= 1;
+    let mut input = rt.stdin();
+    let mut out = rt.stdout();
+    for _ in 0..100000 {
+        if !next(&mut input, &mut out, &mut blob, &mut data)? {
+            break;
+        }
     }
+    Ok(())
 }

@@ -56,14 +56,12 @@ fn none(filler: Reservation) -> Kept {
 fn reserved(blob: &[u8], filler: Reservation) -> Kept {
     let mut k = none(filler);
     let mut at = compare::field(blob, 16);
-    let mut left = blob.len();
-    while left > 0 {
+    for _ in 0..blob.len() {
         if compare::closes(blob, at) {
             return k;
         }
         k = k.noted(octets::long(blob, at), octets::long(blob, up(at, 8)));
         at = up(at, 16);
-        left -= 1;
     }
     k
 }
@@ -116,7 +114,7 @@ fn opened(
 }
 
 // How many nodes are open behind a token.
-fn level_behind(kind: Kind, level: usize) -> usize {
+fn level_behind(kind: &Kind, level: usize) -> usize {
     match kind {
         Kind::Begin { len: _ } => up(level, 1),
         Kind::EndNode => compare::down(level),
@@ -172,11 +170,11 @@ fn calls(
     let mut w = start;
     let mut at = 0;
     let mut level = 0;
-    let mut left = structure.len();
-    while left > 0 {
+    for _ in 0..structure.len() {
         let Token::Item { kind, next } = tokens::token_at(structure, at) else {
             return Written::Done(w);
         };
+        let behind = level_behind(&kind, level);
         let answer = call(
             w, structure, names, kind, at, data, strings, &mut open, level,
         );
@@ -184,9 +182,8 @@ fn calls(
             return answer;
         };
         w = n;
-        level = level_behind(kind, level);
+        level = behind;
         at = next;
-        left -= 1;
     }
     Written::Done(w)
 }

@@ -1,48 +1,50 @@
 // What is printed of a case.
-use libc::STDOUT_FILENO;
 use reader::Refusal;
+use std::io;
+use std::io::Write;
+use streams::print_decimal;
 use writer::Error;
 
 // What a reading refuses; it ends the line.
-pub fn refused(refusal: Refusal) {
+pub fn refused<W: Write>(out: &mut W, refusal: Refusal) -> io::Result<()> {
     let t = reader::told(refusal);
-    io::write_all(STDOUT_FILENO, b": refused ");
-    io::print_decimal(STDOUT_FILENO, t.number);
-    io::write_all(STDOUT_FILENO, b" at ");
-    io::print_decimal(STDOUT_FILENO, t.place as u64);
-    io::write_all(STDOUT_FILENO, b"\n");
+    out.write_all(b": refused ")?;
+    print_decimal(out, t.number)?;
+    out.write_all(b" at ")?;
+    print_decimal(out, t.place as u64)?;
+    out.write_all(b"\n")
 }
 
 // What the writing refuses; it ends the line.
-pub fn stopped(error: Error) {
-    io::write_all(STDOUT_FILENO, b", refused ");
-    io::print_decimal(STDOUT_FILENO, judge::number(error));
-    io::write_all(STDOUT_FILENO, b"\n");
+pub fn stopped<W: Write>(out: &mut W, error: Error) -> io::Result<()> {
+    out.write_all(b", refused ")?;
+    print_decimal(out, judge::number(error))?;
+    out.write_all(b"\n")
 }
 
-pub fn nodes(count: usize) {
-    io::write_all(STDOUT_FILENO, b": nodes ");
-    io::print_decimal(STDOUT_FILENO, count as u64);
+pub fn nodes<W: Write>(out: &mut W, count: usize) -> io::Result<()> {
+    out.write_all(b": nodes ")?;
+    print_decimal(out, count as u64)
 }
 
-pub fn length(n: usize) {
-    io::write_all(STDOUT_FILENO, b", again ");
-    io::print_decimal(STDOUT_FILENO, n as u64);
+pub fn length<W: Write>(out: &mut W, n: usize) -> io::Result<()> {
+    out.write_all(b", again ")?;
+    print_decimal(out, n as u64)
 }
 
-pub fn digests(first: u32, second: u32) {
-    io::write_all(STDOUT_FILENO, b", events ");
-    io::print_hex(STDOUT_FILENO, first as u64, 8);
-    io::write_all(STDOUT_FILENO, b" ");
-    io::print_hex(STDOUT_FILENO, second as u64, 8);
+pub fn digests<W: Write>(out: &mut W, first: u32, second: u32) -> io::Result<()> {
+    out.write_all(b", events ")?;
+    streams::print_hex(out, first as u64, 8)?;
+    out.write_all(b" ")?;
+    streams::print_hex(out, second as u64, 8)
 }
 
 // Whether the two agree; it ends the line.
-pub fn verdict(same: bool) {
+pub fn verdict<W: Write>(out: &mut W, same: bool) -> io::Result<()> {
     if same {
-        io::write_all(STDOUT_FILENO, b", same\n");
+        out.write_all(b", same\n")
     } else {
-        io::write_all(STDOUT_FILENO, b", different\n");
+        out.write_all(b", different\n")
     }
 }
 
@@ -53,27 +55,25 @@ fn spaceless(b: u8) -> u8 {
     if b == b' ' { b'_' } else { b }
 }
 
-fn print_label(label: &[u8]) {
-    let mut i = 0;
-    while i < label.len() {
-        io::write_all(STDOUT_FILENO, &[spaceless(octets::byte(label, i))]);
-        i += 1;
+fn print_label<W: Write>(out: &mut W, label: &[u8]) -> io::Result<()> {
+    for b in label {
+        out.write_all(&[spaceless(*b)])?;
     }
+    Ok(())
 }
 
-fn print_hex(s: &[u8]) {
-    let mut i = 0;
-    while i < s.len() {
-        io::print_hex(STDOUT_FILENO, octets::byte(s, i) as u64, 2);
-        i += 1;
+fn print_hex<W: Write>(out: &mut W, s: &[u8]) -> io::Result<()> {
+    for b in s {
+        streams::print_hex(out, *b as u64, 2)?;
     }
+    Ok(())
 }
 
 // The line `blob LABEL HEX`.
-pub fn shown(label: &[u8], blob: &[u8]) {
-    io::write_all(STDOUT_FILENO, b"blob ");
-    print_label(label);
-    io::write_all(STDOUT_FILENO, b" ");
-    print_hex(blob);
-    io::write_all(STDOUT_FILENO, b"\n");
+pub fn shown<W: Write>(out: &mut W, label: &[u8], blob: &[u8]) -> io::Result<()> {
+    out.write_all(b"blob ")?;
+    print_label(out, label)?;
+    out.write_all(b" ")?;
+    print_hex(out, blob)?;
+    out.write_all(b"\n")
 }

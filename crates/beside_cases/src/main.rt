@@ -10,6 +10,8 @@ mod taken;
 
 use cases::{case, within, within_longs, within_words};
 use derive::Answer;
+use std::io;
+use std::io::{Read, Write};
 
 // Room for the longest host, the two lists and the ids, with the head.
 const CASE: usize = case::HEAD + 3 * 70000 + 8 * case::MOST_IDS;
@@ -46,40 +48,62 @@ fn derived(case: &[u8], work: &mut [u32], list: &mut [u8], guest: &mut [u8]) -> 
 }
 
 // Derives, and tells of it.
-fn tell(case: &[u8], work: &mut [u32], list: &mut [u8], guest: &mut [u8]) {
+fn tell<W: Write>(
+    out: &mut W,
+    case: &[u8],
+    work: &mut [u32],
+    list: &mut [u8],
+    guest: &mut [u8],
+) -> io::Result<()> {
     let answer = derived(case, work, list, guest);
-    line::print_line(answer, list, guest, work);
+    line::print_line(out, answer, list, guest, work)
 }
 
 // Lends as much of each as the case says.
-fn lend(case: &[u8], work: &mut [u32], list: &mut [u8], guest: &mut [u8]) {
+fn lend<W: Write>(
+    out: &mut W,
+    case: &[u8],
+    work: &mut [u32],
+    list: &mut [u8],
+    guest: &mut [u8],
+) -> io::Result<()> {
     let w = within_words(case::number(case, case::WORDS), work);
     let l = within(case::number(case, case::LIST), list);
     let g = within(case::number(case, case::GUEST), guest);
-    tell(case, &mut work[..w], &mut list[..l], &mut guest[..g]);
+    tell(out, case, &mut work[..w], &mut list[..l], &mut guest[..g])
 }
 
 // The same, of arrays.
-fn run(case: &[u8], work: &mut [u32; WORDS], list: &mut [u8; LIST], guest: &mut [u8; GUEST]) {
-    lend(case, work, list, guest);
+fn run<W: Write>(
+    out: &mut W,
+    case: &[u8],
+    work: &mut [u32; WORDS],
+    list: &mut [u8; LIST],
+    guest: &mut [u8; GUEST],
+) -> io::Result<()> {
+    lend(out, case, work, list, guest)
 }
 
 // One case; false where there is none left.
-fn next(case: &mut [u8; CASE]) -> bool {
-    if !taken::take_case(case) {
-        return false;
+fn next<R: Read, W: Write>(input: &mut R, out: &mut W, case: &mut [u8; CASE]) -> io::Result<bool> {
+    if !taken::take_case(input, case)? {
+        return Ok(false);
     }
     let mut work = [FILL_WORD; WORDS];
     let mut list = [FILL; LIST];
     let mut guest = [FILL; GUEST];
-    run(case, &mut work, &mut list, &mut guest);
-    true
+    run(out, case, &mut work, &mut list, &mut guest)?;
+    Ok(true)
 }
 
-fn main() {
+fn main(rt: HostRuntime) -> io::Result<()> {
     let mut case = [0u8; CASE];
-    let mut turns: u32 = 100000000;
-    while turns > 0 && next(&mut case) {
-        turns -= 1;
+    let mut input = rt.stdin();
+    let mut out = rt.stdout();
+    for _ in 0..100000000 {
+        if !next(&mut input, &mut out, &mut case)? {
+            break;
+        }
     }
+    Ok(())
 }

@@ -2,6 +2,8 @@
 // says which bytes: those that are withheld, and, so that a difference is seen to be one, some that are not.
 use crate::outcome::{TOLD, print_number, put_outcome};
 use cases::{case, up};
+use std::io;
+use std::io::Write;
 
 // What stands for all the spans where a run names the byte to change.
 const ALL: u32 = 0xffffffff;
@@ -23,12 +25,10 @@ fn changed(b: u8, how: u32) -> u8 {
 
 fn change(case: &mut [u8], from: usize, n: usize, how: u32) {
     let mut at = from;
-    let mut left = n;
-    while left > 0 {
+    for _ in 0..n {
         let b = changed(octets::byte(case, at), how);
         octets::put_bytes(case, at, &[b]);
         at = up(at, 1);
-        left -= 1;
     }
 }
 
@@ -36,13 +36,11 @@ fn change(case: &mut [u8], from: usize, n: usize, how: u32) {
 fn change_all(case: &mut [u8], spans: &[u8], how: u32) {
     let host = case::start(case, case::FRONT);
     let mut at = 0;
-    let mut left = spans.len() / 8;
-    while left > 0 {
+    for _ in 0..spans.len() / 8 {
         let from = octets::word(spans, at) as usize;
         let n = octets::word(spans, up(at, 4)) as usize;
         change(case, up(host, from), n, how);
         at = up(at, 8);
-        left -= 1;
     }
 }
 
@@ -50,11 +48,9 @@ fn change_all(case: &mut [u8], spans: &[u8], how: u32) {
 fn spanned(spans: &[u8]) -> usize {
     let mut sum = 0;
     let mut at = 4;
-    let mut left = spans.len() / 8;
-    while left > 0 {
+    for _ in 0..spans.len() / 8 {
         sum = up(sum, octets::word(spans, at) as usize);
         at = up(at, 8);
-        left -= 1;
     }
     sum
 }
@@ -100,10 +96,8 @@ fn differing(
     again: &mut [u8; OUT],
 ) -> usize {
     let mut count = 0;
-    let mut left = case::number(case, case::RUNS) / 8;
-    while left > 0 {
-        left -= 1;
-        prepare(case, other, left);
+    for k in (0..case::number(case, case::RUNS) / 8).rev() {
+        prepare(case, other, k);
         put_outcome(other, work, again);
         count = up(count, differs(out, again));
     }
@@ -117,16 +111,21 @@ fn compared(case: &[u8], work: &mut [u32], out: &[u8]) -> usize {
 }
 
 // Prints how many bytes the spans have, how many runs there were, and how many of them differ.
-fn print_runs(case: &[u8], count: usize) {
-    print_number(b", bytes ", spanned(case::part(case, case::SPANS)) as u64);
-    print_number(b" runs ", (case::number(case, case::RUNS) / 8) as u64);
-    print_number(b" differ ", count as u64);
+fn print_runs<W: Write>(to: &mut W, case: &[u8], count: usize) -> io::Result<()> {
+    print_number(
+        to,
+        b", bytes ",
+        spanned(case::part(case, case::SPANS)) as u64,
+    )?;
+    print_number(to, b" runs ", (case::number(case, case::RUNS) / 8) as u64)?;
+    print_number(to, b" differ ", count as u64)
 }
 
 // Runs all that the case says to run again, and where there is any, prints what came of it.
-pub fn report(case: &[u8], work: &mut [u32], out: &[u8]) {
+pub fn report<W: Write>(to: &mut W, case: &[u8], work: &mut [u32], out: &[u8]) -> io::Result<()> {
     let count = compared(case, work, out);
     if case::number(case, case::RUNS) > 0 {
-        print_runs(case, count);
+        print_runs(to, case, count)?;
     }
+    Ok(())
 }

@@ -11,8 +11,10 @@ mod outcome;
 mod taken;
 
 use cases::{case, digest, digest_words, up, within_words};
-use libc::STDOUT_FILENO;
 use outcome::{TOLD, print_told, put_outcome};
+use std::io;
+use std::io::{Read, Write};
+use streams::print_hex;
 
 // Room for the longest host, and for what the rest of a case has at most.
 const CASE: usize = 1048640 + 66000;
@@ -24,54 +26,72 @@ const WORDS: usize = 16400;
 // What every word of a work space is before the derivation gets it.
 const FILL: u32 = 0xa5a5a5a5;
 
-fn print_digest(text: &[u8], digest: u32) {
-    io::write_all(STDOUT_FILENO, text);
-    io::print_hex(STDOUT_FILENO, digest as u64, 8);
+fn print_digest<W: Write>(to: &mut W, text: &[u8], digest: u32) -> io::Result<()> {
+    to.write_all(text)?;
+    print_hex(to, digest as u64, 8)
 }
 
 // Prints the answer, and what is left in the buffers, of which the list has so many bytes.
-fn show(out: &[u8], list: usize, work: &[u32]) {
-    print_told(out);
-    print_digest(b", left ", digest(octets::part(out, TOLD, list)));
-    print_digest(b" ", digest(octets::part(out, up(TOLD, list), out.len())));
-    print_digest(b" ", digest_words(work));
+fn show<W: Write>(to: &mut W, out: &[u8], list: usize, work: &[u32]) -> io::Result<()> {
+    print_told(to, out)?;
+    print_digest(to, b", left ", digest(octets::part(out, TOLD, list)))?;
+    print_digest(
+        to,
+        b" ",
+        digest(octets::part(out, up(TOLD, list), out.len())),
+    )?;
+    print_digest(to, b" ", digest_words(work))
 }
 
 // Prints the outcome of a case, and runs what it says to run again.
-fn tell(case: &[u8], work: &mut [u32], out: &[u8]) {
-    show(out, case::number(case, case::LIST), work);
-    leak::report(case, work, out);
-    io::write_all(STDOUT_FILENO, b"\n");
+fn tell<W: Write>(to: &mut W, case: &[u8], work: &mut [u32], out: &[u8]) -> io::Result<()> {
+    show(to, out, case::number(case, case::LIST), work)?;
+    leak::report(to, case, work, out)?;
+    to.write_all(b"\n")
 }
 
 // Derives on as many words as the case lends.
-fn lent(case: &[u8], work: &mut [u32], out: &mut [u8]) {
+fn lent<W: Write>(to: &mut W, case: &[u8], work: &mut [u32], out: &mut [u8]) -> io::Result<()> {
     let w = within_words(case::number(case, case::WORDS), work);
     let words = &mut work[..w];
     put_outcome(case, words, out);
-    tell(case, words, outcome::outcome(case, out));
+    tell(to, case, words, outcome::outcome(case, out))
 }
 
-fn run(case: &[u8], work: &mut [u32; WORDS], out: &mut [u8; OUT]) {
-    io::write_all(STDOUT_FILENO, case::part(case, case::LABEL));
-    lent(case, work, out);
+fn run<W: Write>(
+    to: &mut W,
+    case: &[u8],
+    work: &mut [u32; WORDS],
+    out: &mut [u8; OUT],
+) -> io::Result<()> {
+    to.write_all(case::part(case, case::LABEL))?;
+    lent(to, case, work, out)
 }
 
 // One case; false where there is none left.
-fn next(case: &mut [u8; CASE], out: &mut [u8; OUT]) -> bool {
+fn next<R: Read, W: Write>(
+    input: &mut R,
+    to: &mut W,
+    case: &mut [u8; CASE],
+    out: &mut [u8; OUT],
+) -> io::Result<bool> {
     let mut work = [FILL; WORDS];
-    if !taken::take_case(case) {
-        return false;
+    if !taken::take_case(input, case)? {
+        return Ok(false);
     }
-    run(case, &mut work, out);
-    true
+    run(to, case, &mut work, out)?;
+    Ok(true)
 }
 
-fn main() {
+fn main(rt: HostRuntime) -> io::Result<()> {
     let mut case = [0u8; CASE];
     let mut out = [0u8; OUT];
-    let mut turns: u32 = 100000;
-    while turns > 0 && next(&mut case, &mut out) {
-        turns -= 1;
+    let mut input = rt.stdin();
+    let mut to = rt.stdout();
+    for _ in 0..100000 {
+        if !next(&mut input, &mut to, &mut case, &mut out)? {
+            break;
+        }
     }
+    Ok(())
 }

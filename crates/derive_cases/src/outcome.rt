@@ -2,7 +2,9 @@
 // behind them the list and the guest, whole as lent.
 use cases::{case, up, within, within_longs};
 use derive::Answer;
-use libc::STDOUT_FILENO;
+use std::io;
+use std::io::Write;
+use streams::print_decimal;
 
 // The four numbers: 0, the paths, the bytes of list and guest; or a refusal's number, its place, 0 and 0.
 pub const TOLD: usize = 32;
@@ -92,19 +94,19 @@ pub fn outcome<'a>(case: &'a [u8], out: &'a [u8]) -> &'a [u8] {
 
 // ---- what is printed
 
-pub fn print_number(text: &[u8], n: u64) {
-    io::write_all(STDOUT_FILENO, text);
-    io::print_decimal(STDOUT_FILENO, n);
+pub fn print_number<W: Write>(to: &mut W, text: &[u8], n: u64) -> io::Result<()> {
+    to.write_all(text)?;
+    print_decimal(to, n)
 }
 
 // Prints an outcome's numbers.
-pub fn print_told(out: &[u8]) {
+pub fn print_told<W: Write>(to: &mut W, out: &[u8]) -> io::Result<()> {
     if octets::long(out, 0) == 0 {
-        print_number(b": paths ", octets::long(out, 8));
-        print_number(b" list ", octets::long(out, 16));
-        print_number(b" guest ", octets::long(out, 24));
+        print_number(to, b": paths ", octets::long(out, 8))?;
+        print_number(to, b" list ", octets::long(out, 16))?;
+        print_number(to, b" guest ", octets::long(out, 24))
     } else {
-        print_number(b": refused ", octets::long(out, 0));
-        print_number(b" at ", octets::long(out, 8));
+        print_number(to, b": refused ", octets::long(out, 0))?;
+        print_number(to, b" at ", octets::long(out, 8))
     }
 }

@@ -11,11 +11,13 @@ mod script;
 mod tell;
 
 use cases::{within, within_longs, within_words};
-use libc::STDIN_FILENO;
 use references::rows;
 use reservation::{Made, Reservation};
 use rules::RESERVATION_CEILING;
 use script::{number, unhex, word};
+use std::io;
+use std::io::{Read, Write};
+use streams::read_full;
 use writer::{FdtWriter, Written};
 
 const DATA: usize = 4096;
@@ -78,10 +80,8 @@ fn entry(address: u64, size: u64, r: Reservation) -> Reservation {
 // Those that the bytes spell, sixteen to each.
 fn entries(s: &[u8], r: Reservation) -> [Reservation; RESERVATION_CEILING] {
     let mut rs = [r; RESERVATION_CEILING];
-    let mut i = 0;
-    while i < RESERVATION_CEILING {
+    for i in 0..RESERVATION_CEILING {
         rs[i] = entry(octets::long(s, i * 16), octets::long(s, i * 16 + 8), r);
-        i += 1;
     }
     rs
 }
@@ -225,7 +225,8 @@ fn call(
 }
 
 // Makes a call and tells of it.
-fn called(
+fn called<O: Write>(
+    out: &mut O,
     q: Asked,
     w: FdtWriter,
     data: &mut [u8],
@@ -233,9 +234,9 @@ fn called(
     phandles: &mut [u32],
     name: &[u8],
     val: &[u8],
-) -> FdtWriter {
+) -> io::Result<FdtWriter> {
     let answer = call(q, w, data, strings, phandles, name, val);
-    tell::told(answer, data, strings, phandles)
+    tell::told(out, answer, data, strings, phandles)
 }
 
 // A state of nothing, finished.
@@ -252,27 +253,29 @@ fn nothing() -> FdtWriter {
     }
 }
 
-fn judged(name: &[u8]) {
+fn judged<O: Write>(out: &mut O, name: &[u8]) -> io::Result<()> {
     tell::name(
+        out,
         names::node_name_valid(name),
         names::property_name_valid(name),
         names::node_name_reads(name),
         names::property_name_reads(name),
-    );
+    )
 }
 
 // Whether a property of this name holds references, and whether it asks its targets for this cells property.
-fn refers(name: &[u8], cells: &[u8]) {
+fn refers<O: Write>(out: &mut O, name: &[u8], cells: &[u8]) -> io::Result<()> {
     tell::refers(
+        out,
         rows::is_phandle_property(name),
         rows::is_cells(rows::cells_name(name), cells),
-    );
+    )
 }
 
-fn made(address: u64, size: u64) {
+fn made<O: Write>(out: &mut O, address: u64, size: u64) -> io::Result<()> {
     match Reservation::new(address, size) {
-        Made::Reserved(r) => tell::made(0, r.address(), r.size()),
-        Made::InvalidMemoryReservation => tell::made(0x27, 0, 0),
+        Made::Reserved(r) => tell::made(out, 0, r.address(), r.size()),
+        Made::InvalidMemoryReservation => tell::made(out, 0x27, 0, 0),
     }
 }
 
@@ -287,7 +290,8 @@ fn lend(q: Asked, phandles: usize) -> Session {
 }
 
 // A call of the writer on what is lent.
-fn on(
+fn on<O: Write>(
+    out: &mut O,
     q: Asked,
     s: Session,
     data: &mut [u8],
@@ -295,12 +299,13 @@ fn on(
     phandles: &mut [u32],
     name: &[u8],
     val: &[u8],
-) -> Session {
+) -> io::Result<Session> {
     let w = s.w;
     let d = within(s.data, data);
     let t = within(s.strings, strings);
     let p = within_words(s.phandles, phandles);
     let after = called(
+        out,
         q,
         w,
         &mut data[..d],
@@ -308,11 +313,12 @@ fn on(
         &mut phandles[..p],
         name,
         val,
-    );
-    s.with(after)
+    )?;
+    Ok(s.with(after))
 }
 
-fn answer(
+fn answer<O: Write>(
+    out: &mut O,
     q: Asked,
     s: Session,
     data: &mut [u8],
@@ -320,35 +326,36 @@ fn answer(
     phandles: &mut [u32],
     name: &[u8],
     val: &[u8],
-) -> Session {
+) -> io::Result<Session> {
     let op = q.op;
     match op {
         b'n' => {
-            judged(name);
-            s
+            judged(out, name)?;
+            Ok(s)
         }
         b'm' => {
-            made(q.a, q.b);
-            s
+            made(out, q.a, q.b)?;
+            Ok(s)
         }
         b'r' => {
-            refers(name, val);
-            s
+            refers(out, name, val)?;
+            Ok(s)
         }
         b'l' => {
             cases::fill(data, FILL);
             cases::fill(strings, FILL);
             cases::fill_words(phandles, FILL_WORD);
-            lend(q, octets::word(val, 0) as usize)
+            Ok(lend(q, octets::word(val, 0) as usize))
         }
-        _ => on(q, s, data, strings, phandles, name, val),
+        _ => on(out, q, s, data, strings, phandles, name, val),
     }
 }
 
 // Reads n bytes, or as many as there is room for.
-fn take(raw: &mut [u8], n: usize) {
+fn take<R: Read>(input: &mut R, raw: &mut [u8], n: usize) -> io::Result<()> {
     let m = within(n, raw);
-    io::read_full(STDIN_FILENO, &mut raw[..m]);
+    read_full(input, &mut raw[..m])?;
+    Ok(())
 }
 
 // The first bytes of a text.
@@ -362,18 +369,23 @@ fn spelt(raw: &[u8; RAW], at: usize, n: usize, out: &mut [u8; TEXT]) -> usize {
 }
 
 // The second line of a question: its name and its value. Its last character, the line's end, is of neither.
-fn behind(head: &[u8; HEAD], name: &mut [u8; TEXT], val: &mut [u8; TEXT]) -> Asked {
+fn behind<R: Read>(
+    input: &mut R,
+    head: &[u8; HEAD],
+    name: &mut [u8; TEXT],
+    val: &mut [u8; TEXT],
+) -> io::Result<Asked> {
     let n = count(head, 36) as usize;
     let m = count(head, 41) as usize;
     let mut raw = [0u8; RAW];
-    take(&mut raw, n + m + 1);
-    Asked {
+    take(input, &mut raw, n + m + 1)?;
+    Ok(Asked {
         op: octets::byte(head, 0),
         a: number(octets::part(head, 2, 16)),
         b: number(octets::part(head, 19, 16)),
         name: spelt(&raw, 0, n, name),
         val: spelt(&raw, n, m, val),
-    }
+    })
 }
 
 // How many characters a field of four says.
@@ -392,34 +404,40 @@ fn over() -> Asked {
     }
 }
 
-fn question(name: &mut [u8; TEXT], val: &mut [u8; TEXT]) -> Asked {
+fn question<R: Read>(
+    input: &mut R,
+    name: &mut [u8; TEXT],
+    val: &mut [u8; TEXT],
+) -> io::Result<Asked> {
     let mut head = [0u8; HEAD];
-    let got = io::read_full(STDIN_FILENO, &mut head);
+    let got = read_full(input, &mut head)?;
     if got < HEAD {
-        return over();
+        return Ok(over());
     }
-    behind(&head, name, val)
+    behind(input, &head, name, val)
 }
 
 // One question; Over where there is none left.
-fn next(
+fn next<R: Read, O: Write>(
+    input: &mut R,
+    out: &mut O,
     s: Session,
     data: &mut [u8; DATA],
     strings: &mut [u8; STRINGS],
     phandles: &mut [u32; PHANDLES],
-) -> Turn {
+) -> io::Result<Turn> {
     let mut name = [0u8; TEXT];
     let mut val = [0u8; TEXT];
-    let q = question(&mut name, &mut val);
+    let q = question(input, &mut name, &mut val)?;
     if q.op == 0 {
-        return Turn::Over;
+        return Ok(Turn::Over);
     }
     let n = text(&name, q.name);
     let v = text(&val, q.val);
-    Turn::More(answer(q, s, data, strings, phandles, n, v))
+    Ok(Turn::More(answer(out, q, s, data, strings, phandles, n, v)?))
 }
 
-fn main() {
+fn main(rt: HostRuntime) -> io::Result<()> {
     let mut data = [0u8; DATA];
     let mut strings = [0u8; STRINGS];
     let mut phandles = [0u32; PHANDLES];
@@ -429,16 +447,24 @@ fn main() {
         strings: 0,
         phandles: 0,
     };
-    let mut turns: u32 = 4000000000;
-    while turns > 0 {
-        match next(s, &mut data, &mut strings, &mut phandles) {
+    let mut input = rt.stdin();
+    let mut out = rt.stdout();
+    for _ in 0..4000000000u32 {
+        match next(
+            &mut input,
+            &mut out,
+            s,
+            &mut data,
+            &mut strings,
+            &mut phandles,
+        )? {
             Turn::More(kept) => {
                 s = kept;
             }
             Turn::Over => {
-                return;
+                return Ok(());
             }
         }
-        turns -= 1;
     }
+    Ok(())
 }

@@ -19,10 +19,8 @@ fn value(x: u8) -> u64
 // The number that all of s spells, of its last 16 digits.
 pub(crate) fn number(s: &[u8]) -> u64 {
     let mut v: u64 = 0;
-    let mut i = 0;
-    while i < s.len() {
-        v = v % 1152921504606846976 * 16 + value(s[i]);
-        i += 1;
+    for x in s {
+        v = v % 1152921504606846976 * 16 + value(*x);
     }
     v
 }
@@ -41,10 +39,8 @@ fn least(a: usize, b: usize) -> usize
 // The bytes that s spells, two digits to each, in `out`; answers how many.
 pub(crate) fn unhex(s: &[u8], out: &mut [u8; 1024]) -> usize {
     let n = least(s.len() / 2, 1024);
-    let mut i = 0;
-    while i < n {
+    for i in 0..n {
         out[i] = digit(octets::byte(s, i * 2)) * 16 + digit(octets::byte(s, i * 2 + 1));
-        i += 1;
     }
     n
 }

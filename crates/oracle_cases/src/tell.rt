@@ -1,6 +1,8 @@
 // What is told of a question: a line of hexadecimal numbers, each as wide as its place is.
 use cases::{digest, digest_words};
-use libc::STDOUT_FILENO;
+use std::io;
+use std::io::{Cursor, Write};
+use streams::print_hex;
 use writer::{FdtWriter, Written};
 
 const LINE: usize = 140;
@@ -18,10 +20,12 @@ fn digits(text: &[u8; 16], n: usize) -> &[u8] {
     octets::part(text, 0, n)
 }
 
+// Puts a number, of at most 16 digits, at a place of the line.
 fn put(line: &mut [u8; LINE], at: usize, n: u64, width: usize) {
-    let mut text = [0u8; 16];
-    let k = io::hex(n, width, &mut text);
-    octets::put_bytes(line, at, digits(&text, k));
+    let mut text = Cursor::new([0u8; 16]);
+    let _ = print_hex(&mut text, n, width);
+    let k = text.position() as usize;
+    octets::put_bytes(line, at, digits(&text.into_inner(), k));
 }
 
 fn state(line: &mut [u8; LINE], w: FdtWriter) {
@@ -36,8 +40,8 @@ fn state(line: &mut [u8; LINE], w: FdtWriter) {
 }
 
 // Writes the first n characters.
-fn show(line: &[u8; LINE], n: usize) {
-    io::write_all(STDOUT_FILENO, octets::part(line, 0, n));
+fn show<O: Write>(out: &mut O, line: &[u8; LINE], n: usize) -> io::Result<()> {
+    out.write_all(octets::part(line, 0, n))
 }
 
 fn blank() -> [u8; LINE] {
@@ -46,59 +50,65 @@ fn blank() -> [u8; LINE] {
     line
 }
 
-fn refusal(answer: Written) -> u64 {
+// The state that an answer hands back, and its refusal or 0.
+fn parts(answer: Written) -> (FdtWriter, u64) {
     match answer {
-        Written::Done(_) => 0,
-        Written::Refused(_, e) => decimal(judge::number(e)),
-    }
-}
-
-fn after(answer: Written) -> FdtWriter {
-    match answer {
-        Written::Done(w) => w,
-        Written::Refused(w, _) => w,
+        Written::Done(w) => (w, 0),
+        Written::Refused(w, e) => (w, decimal(judge::number(e))),
     }
 }
 
 // Writes the line of a call: its refusal or 00, the state that it hands back (lengths of data, structure's offset, strings and
 // phandle table, the depth, whether a node was ended, whether it is finished, the boot CPU), and digests of data, strings and
 // phandle table. Hands back the state.
-pub(crate) fn told(answer: Written, data: &[u8], strings: &[u8], phandles: &[u32]) -> FdtWriter {
-    let w = after(answer);
+pub(crate) fn told<O: Write>(
+    out: &mut O,
+    answer: Written,
+    data: &[u8],
+    strings: &[u8],
+    phandles: &[u32],
+) -> io::Result<FdtWriter> {
+    let (w, refusal) = parts(answer);
     let mut line = blank();
-    put(&mut line, 0, refusal(answer), 2);
+    put(&mut line, 0, refusal, 2);
     state(&mut line, w);
     put(&mut line, 101, digest(data) as u64, 8);
     put(&mut line, 110, digest(strings) as u64, 8);
     put(&mut line, 119, digest_words(phandles) as u64, 8);
-    show(&line, 128);
-    w
+    show(out, &line, 128)?;
+    Ok(w)
 }
 
 // Writes a digit for each test of a name: as the writer takes it for a node and for a property, and as the reader does.
-pub(crate) fn name(node: bool, property: bool, node_reads: bool, property_reads: bool) {
+pub(crate) fn name<O: Write>(
+    out: &mut O,
+    node: bool,
+    property: bool,
+    node_reads: bool,
+    property_reads: bool,
+) -> io::Result<()> {
     let mut line = [b'\n'; LINE];
     put(&mut line, 0, flag(node), 1);
     put(&mut line, 1, flag(property), 1);
     put(&mut line, 2, flag(node_reads), 1);
     put(&mut line, 3, flag(property_reads), 1);
-    show(&line, 5);
+    show(out, &line, 5)
 }
 
 // Writes a digit for each.
-pub(crate) fn refers(reference: bool, cells: bool) {
+pub(crate) fn refers<O: Write>(out: &mut O, reference: bool, cells: bool) -> io::Result<()> {
     let mut line = [b'\n'; LINE];
     put(&mut line, 0, flag(reference), 1);
     put(&mut line, 1, flag(cells), 1);
-    show(&line, 3);
+    show(out, &line, 3)
 }
 
 // Writes what the maker of reservations answers: 27 or 00, and what the reservation holds.
-pub(crate) fn made(refusal: u64, address: u64, size: u64) {
+pub(crate) fn made<O: Write>(out: &mut O, refusal: u64, address: u64, size: u64) -> io::Result<()> {
     let mut line = [b' '; LINE];
     line[36] = b'\n';
     put(&mut line, 0, refusal, 2);
     put(&mut line, 3, address, 16);
     put(&mut line, 20, size, 16);
-    show(&line, 37);
+    show(out, &line, 37)
 }

@@ -4,8 +4,10 @@
 #![tactic(auto)]
 
 use cases::{within, within_words};
-use libc::{STDIN_FILENO, STDOUT_FILENO};
 use reader::Answer;
+use std::io;
+use std::io::{Read, Write};
+use streams::{print_decimal, print_hex, read_full};
 
 // Room for the longest blob, with a byte over the ceiling, and for the most words that a case lends.
 const BLOB: usize = 1048640;
@@ -38,34 +40,34 @@ fn head_of(s: &[u8; 16]) -> Head {
     }
 }
 
-fn print_answer(answer: Answer) {
+fn print_answer<W: Write>(out: &mut W, answer: Answer) -> io::Result<()> {
     match answer {
         Answer::Nodes(count) => {
-            io::write_all(STDOUT_FILENO, b": nodes ");
-            io::print_decimal(STDOUT_FILENO, count as u64);
+            out.write_all(b": nodes ")?;
+            print_decimal(out, count as u64)
         }
         Answer::Refused(refusal) => {
             let t = reader::told(refusal);
-            io::write_all(STDOUT_FILENO, b": refused ");
-            io::print_decimal(STDOUT_FILENO, t.number);
-            io::write_all(STDOUT_FILENO, b" at ");
-            io::print_decimal(STDOUT_FILENO, t.place as u64);
+            out.write_all(b": refused ")?;
+            print_decimal(out, t.number)?;
+            out.write_all(b" at ")?;
+            print_decimal(out, t.place as u64)
         }
     }
 }
 
-fn run(blob: &[u8], work: &mut [u32]) {
+fn run<W: Write>(out: &mut W, blob: &[u8], work: &mut [u32]) -> io::Result<()> {
     cases::fill_words(work, FILL);
-    print_answer(reader::read(blob, work));
-    io::write_all(STDOUT_FILENO, b", work ");
-    io::print_hex(STDOUT_FILENO, cases::digest_words(work) as u64, 8);
-    io::write_all(STDOUT_FILENO, b"\n");
+    print_answer(out, reader::read(blob, work))?;
+    out.write_all(b", work ")?;
+    print_hex(out, cases::digest_words(work) as u64, 8)?;
+    out.write_all(b"\n")
 }
 
 // Reads n bytes of the case, or as many as there is room for, and answers how many.
-fn take(buf: &mut [u8], n: usize) -> usize {
+fn take<R: Read>(input: &mut R, buf: &mut [u8], n: usize) -> io::Result<usize> {
     let m = within(n, buf);
-    io::read_full(STDIN_FILENO, &mut buf[..m])
+    read_full(input, &mut buf[..m])
 }
 
 // The blob with its zeros: how many bytes that makes.
@@ -79,34 +81,50 @@ fn grown(blob: &mut [u8], kept: usize, zeros: usize) -> usize {
     blob.len()
 }
 
-fn lent(blob: &[u8], len: usize, work: &mut [u32], words: usize) {
+fn lent<W: Write>(
+    out: &mut W,
+    blob: &[u8],
+    len: usize,
+    work: &mut [u32],
+    words: usize,
+) -> io::Result<()> {
     let bytes = octets::part(blob, 0, len);
     let n = within_words(words, work);
-    run(bytes, &mut work[..n]);
+    run(out, bytes, &mut work[..n])
 }
 
 // One case; false where there is none left.
-fn next(label: &mut [u8; LABEL], blob: &mut [u8; BLOB], work: &mut [u32; WORDS]) -> bool {
+fn next<R: Read, W: Write>(
+    input: &mut R,
+    out: &mut W,
+    label: &mut [u8; LABEL],
+    blob: &mut [u8; BLOB],
+    work: &mut [u32; WORDS],
+) -> io::Result<bool> {
     let mut s = [0u8; 16];
-    let got = io::read_full(STDIN_FILENO, &mut s);
+    let got = read_full(input, &mut s)?;
     if got < 16 {
-        return false;
+        return Ok(false);
     }
     let head = head_of(&s);
-    let text = take(label, head.label);
-    io::write_all(STDOUT_FILENO, octets::part(label, 0, text));
-    let kept = take(blob, head.kept);
+    let text = take(input, label, head.label)?;
+    out.write_all(octets::part(label, 0, text))?;
+    let kept = take(input, blob, head.kept)?;
     let len = grown(blob, kept, head.zeros);
-    lent(blob, len, work, head.words);
-    true
+    lent(out, blob, len, work, head.words)?;
+    Ok(true)
 }
 
-fn main() {
+fn main(rt: HostRuntime) -> io::Result<()> {
     let mut label = [0u8; LABEL];
     let mut blob = [0u8; BLOB];
     let mut work = [0u32; WORDS];
-    let mut turns: u32 = 100000;
-    while turns > 0 && next(&mut label, &mut blob, &mut work) {
-        turns -= 1;
+    let mut input = rt.stdin();
+    let mut out = rt.stdout();
+    for _ in 0..100000 {
+        if !next(&mut input, &mut out, &mut label, &mut blob, &mut work)? {
+            break;
+        }
     }
+    Ok(())
 }

@@ -11,11 +11,16 @@ mod script;
 mod tell;
 
 use cases::{within, within_words};
-use libc::STDIN_FILENO;
 use reservation::{Made, Reservation};
 use rules::BLOB_CEILING;
 use script::{count, field, number, span, word};
+use std::io;
+use std::io::Write;
+use streams::read_full;
 use writer::{FdtWriter, Written};
+
+// Room for the script.
+const SCRIPT: usize = 65536;
 
 // As much data as a case can be lent: more than counts.
 const DATA_LENT: usize = BLOB_CEILING + 8;
@@ -67,10 +72,8 @@ fn nth(line: &[u8], i: usize, r: Reservation) -> Reservation {
 
 fn entries(line: &[u8], r: Reservation) -> [Reservation; 32] {
     let mut rs = [r; 32];
-    let mut i = 0;
-    while i < 32 {
+    for i in 0..32 {
         rs[i] = nth(line, i, r);
-        i += 1;
     }
     rs
 }
@@ -218,37 +221,40 @@ fn call(
 }
 
 // Makes a call and tells of it.
-fn called(
+fn called<O: Write>(
+    out: &mut O,
     line: &[u8],
     w: FdtWriter,
     data: &mut [u8],
     strings: &mut [u8],
     phandles: &mut [u32],
-) -> FdtWriter {
+) -> io::Result<FdtWriter> {
     let answer = call(line, w, data, strings, phandles);
-    tell::told(answer, data, strings, phandles)
+    tell::told(out, answer, data, strings, phandles)
 }
 
 // A call of the writer on what is lent.
-fn on(
+fn on<O: Write>(
+    out: &mut O,
     line: &[u8],
     s: Session,
     data: &mut [u8],
     strings: &mut [u8],
     phandles: &mut [u32],
-) -> Session {
+) -> io::Result<Session> {
     let w = s.w;
     let d = within(s.data, data);
     let t = within(s.strings, strings);
     let p = within_words(s.phandles, phandles);
     let after = called(
+        out,
         line,
         w,
         &mut data[..d],
         &mut strings[..t],
         &mut phandles[..p],
-    );
-    s.with(after)
+    )?;
+    Ok(s.with(after))
 }
 
 fn nothing() -> FdtWriter {
@@ -287,63 +293,67 @@ fn valid(address: u64, size: u64) -> bool {
 }
 
 // Tells of the first line of a case.
-fn head(line: &[u8]) {
+fn head<O: Write>(out: &mut O, line: &[u8]) -> io::Result<()> {
     if octets::begins(b"made", line) {
-        tell::made(valid(number(line, 1), number(line, 2)));
+        tell::made(out, valid(number(line, 1), number(line, 2)))?;
     }
-    tell::end();
+    tell::end(out)
 }
 
 // What a line of the script does.
-fn turn(
+fn turn<O: Write>(
+    out: &mut O,
     line: &[u8],
     s: Session,
     data: &mut [u8; DATA_LENT],
     strings: &mut [u8; STRINGS_LENT],
     phandles: &mut [u32; PHANDLES_LENT],
-) -> Session {
-    tell::line(line);
+) -> io::Result<Session> {
+    tell::line(out, line)?;
     if line.len() == 0 {
-        return lent(line);
+        return Ok(lent(line));
     }
     if s.first {
-        head(line);
+        head(out, line)?;
         cases::fill(data, FILL);
         cases::fill(strings, FILL);
         cases::fill_words(phandles, FILL_WORD);
-        return lent(line);
+        return Ok(lent(line));
     }
-    on(line, s, data, strings, phandles)
+    on(out, line, s, data, strings, phandles)
 }
 
-fn run(
+fn run<O: Write>(
+    out: &mut O,
     script: &[u8],
     data: &mut [u8; DATA_LENT],
     strings: &mut [u8; STRINGS_LENT],
     phandles: &mut [u32; PHANDLES_LENT],
-) {
+) -> io::Result<()> {
     let mut s = before();
     let mut at = 0;
     while at < script.len() {
         let n = span(&script[at..], b'\n');
         let end = at + n;
         let next = end + 1;
-        s = turn(&script[at..end], s, data, strings, phandles);
+        s = turn(out, &script[at..end], s, data, strings, phandles)?;
         at = next;
     }
+    Ok(())
 }
 
-fn main() {
-    let mut script = io::large_buffer();
-    let n = io::read_full(STDIN_FILENO, &mut script);
+fn main(rt: HostRuntime) -> io::Result<()> {
+    let mut script = [0u8; SCRIPT];
+    let n = read_full(&mut rt.stdin(), &mut script)?;
     script::nuls(&mut script);
     let mut data = [0u8; DATA_LENT];
     let mut strings = [0u8; STRINGS_LENT];
     let mut phandles = [0u32; PHANDLES_LENT];
     run(
+        &mut rt.stdout(),
         octets::part(&script, 0, n),
         &mut data,
         &mut strings,
         &mut phandles,
-    );
+    )
 }

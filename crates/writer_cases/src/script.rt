@@ -7,10 +7,8 @@ fn plain(x: u8) -> u8 {
 
 // Puts the NULs in their places.
 pub(crate) fn nuls(s: &mut [u8]) {
-    let mut i = 0;
-    while i < s.len() {
-        s[i] = plain(s[i]);
-        i += 1;
+    for x in s.iter_mut() {
+        *x = plain(*x);
     }
 }
 
@@ -18,14 +16,12 @@ pub(crate) fn nuls(s: &mut [u8]) {
 pub(crate) fn span(s: &[u8], stop: u8) -> usize
     ensures { result ≤ length s.now }
 {
-    let mut i = 0;
-    while i < s.len() {
-        if s[i] == stop {
+    for (i, x) in s.iter().enumerate() {
+        if *x == stop {
             return i;
         }
-        i += 1;
     }
-    i
+    s.len()
 }
 
 // How many fields are left to skip behind a byte.
@@ -40,15 +36,13 @@ fn fewer(left: usize, x: u8) -> usize {
 // Where a field of a line begins, counted from 0; the line's end where it has none such.
 fn begin(line: &[u8], field: usize) -> usize {
     let mut left = field;
-    let mut i = 0;
-    while i < line.len() {
+    for (i, x) in line.iter().enumerate() {
         if left == 0 {
             return i;
         }
-        left = fewer(left, line[i]);
-        i += 1;
+        left = fewer(left, *x);
     }
-    i
+    line.len()
 }
 
 pub(crate) fn field(line: &[u8], k: usize) -> &[u8] {
@@ -67,10 +61,8 @@ fn digit(x: u8) -> u64
 
 fn spelt(s: &[u8]) -> u64 {
     let mut v: u64 = 0;
-    let mut i = 0;
-    while i < s.len() {
-        v = v % 1152921504606846976 * 16 + digit(s[i]);
-        i += 1;
+    for x in s {
+        v = v % 1152921504606846976 * 16 + digit(*x);
     }
     v
 }

@@ -1,25 +1,27 @@
 // What is told of a call.
 use cases::{digest, digest_words};
-use libc::STDOUT_FILENO;
+use std::io;
+use std::io::Write;
+use streams::print_decimal;
 use writer::{FdtWriter, Written};
 
 fn flag(b: bool) -> u64 {
     if b { 1 } else { 0 }
 }
 
-fn column(n: u64) {
-    io::write_all(STDOUT_FILENO, b" ");
-    io::print_decimal(STDOUT_FILENO, n);
+fn column<O: Write>(out: &mut O, n: u64) -> io::Result<()> {
+    out.write_all(b" ")?;
+    print_decimal(out, n)
 }
 
-fn state(w: FdtWriter) {
-    column(w.data_len as u64);
-    column(w.strings_len as u64);
-    column(w.phandles_len as u64);
-    column(w.node_depth as u64);
-    column(flag(w.node_ended));
-    column(flag(w.finished));
-    column(w.boot_cpuid_phys as u64);
+fn state<O: Write>(out: &mut O, w: FdtWriter) -> io::Result<()> {
+    column(out, w.data_len as u64)?;
+    column(out, w.strings_len as u64)?;
+    column(out, w.phandles_len as u64)?;
+    column(out, w.node_depth as u64)?;
+    column(out, flag(w.node_ended))?;
+    column(out, flag(w.finished))?;
+    column(out, w.boot_cpuid_phys as u64)
 }
 
 // A NUL as the script has it.
@@ -28,48 +30,47 @@ fn shown(x: u8) -> u8 {
 }
 
 // Writes a line of the script, without its end.
-pub(crate) fn line(s: &[u8]) {
-    let mut i = 0;
-    while i < s.len() {
-        io::write_all(STDOUT_FILENO, &[shown(s[i])]);
-        i += 1;
+pub(crate) fn line<O: Write>(out: &mut O, s: &[u8]) -> io::Result<()> {
+    for x in s {
+        out.write_all(&[shown(*x)])?;
     }
+    Ok(())
 }
 
-pub(crate) fn end() {
-    io::write_all(STDOUT_FILENO, b"\n");
+pub(crate) fn end<O: Write>(out: &mut O) -> io::Result<()> {
+    out.write_all(b"\n")
 }
 
-fn refusal(answer: Written) -> u64 {
+// The state that an answer hands back, and the number of its refusal or 0.
+fn parts(answer: Written) -> (FdtWriter, u64) {
     match answer {
-        Written::Done(_) => 0,
-        Written::Refused(_, e) => judge::number(e),
-    }
-}
-
-fn after(answer: Written) -> FdtWriter {
-    match answer {
-        Written::Done(w) => w,
-        Written::Refused(w, _) => w,
+        Written::Done(w) => (w, 0),
+        Written::Refused(w, e) => (w, judge::number(e)),
     }
 }
 
 // Ends the line of a call with its refusal or 0, its place, the state that it hands back, and the digests of what is lent.
 // Hands back the state.
-pub(crate) fn told(answer: Written, data: &[u8], strings: &[u8], phandles: &[u32]) -> FdtWriter {
-    let w = after(answer);
-    column(refusal(answer));
-    column(0);
-    state(w);
-    column(digest(data) as u64);
-    column(digest(strings) as u64);
-    column(digest_words(phandles) as u64);
-    end();
-    w
+pub(crate) fn told<O: Write>(
+    out: &mut O,
+    answer: Written,
+    data: &[u8],
+    strings: &[u8],
+    phandles: &[u32],
+) -> io::Result<FdtWriter> {
+    let (w, refusal) = parts(answer);
+    column(out, refusal)?;
+    column(out, 0)?;
+    state(out, w)?;
+    column(out, digest(data) as u64)?;
+    column(out, digest(strings) as u64)?;
+    column(out, digest_words(phandles) as u64)?;
+    end(out)?;
+    Ok(w)
 }
 
 // What the maker of reservations answers: 27 or 0.
-pub(crate) fn made(valid: bool) {
-    column(if valid { 0 } else { 27 });
-    column(0);
+pub(crate) fn made<O: Write>(out: &mut O, valid: bool) -> io::Result<()> {
+    column(out, if valid { 0 } else { 27 })?;
+    column(out, 0)
 }
