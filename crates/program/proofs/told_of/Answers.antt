@@ -5,8 +5,7 @@ use Rattle.program.proofs.told_of.Goals as goal
 
 pub returns-in-Derived : goal.returns-in-Derived
 returns-in-Derived c =
-    let f = c.answer-1.given.0 in
-    let t = print_derived c.args.answer c.args.list.now c.args.text.now _ c.answer.result f.0 f.1.0 f.1.1.0 c.in-Derived.is (search rules) (search rules) c.part.result.now c.part.ensures c.answer.ensures.value c.answer.ensures.out_after in
+    let t = print_derived c.args.answer c.args.list.now c.args.text.now _ c.answer.result c.in-Derived.paths c.in-Derived.len c.in-Derived.guest c.in-Derived.is (search rules) (search rules) c.part.result.now c.part.ensures c.answer.ensures.value c.answer.ensures.out_after in
     record { value = t.0; text_after = t.1; list_in_bounds = t.2 }
 
 pub returns-in-Refused : goal.returns-in-Refused
