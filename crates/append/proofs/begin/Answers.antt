@@ -7,7 +7,6 @@ use Rattle.rules.specs.Octets.{be32, padded}
 use Rattle.rules.specs.Writer.{begin_bytes}
 use Rattle.rules.proofs.Laws.Octets.{lay_past, length_be32}
 use Rattle.rules.proofs.Laws.Writer.{laid_on, filled_closed}
-use borrow.Author.Rules.{rules}
 use Rattle.append.proofs.begin.Goals as goal
 
 pub returns-then-data-at : goal.returns-then-data-at

@@ -2,11 +2,9 @@
 use mathlib.Core.Path.{◌≡◌, sym, ◌∙◌}
 use mathlib.Core.Bool.{true, false}
 use native.Mathlib.Omega.{arith}
-use borrow.Author.Tests.{not-true, not-false}
 use Rattle.rules.specs.Octets.{begins, closed}
 use Rattle.rules.proofs.Laws.Octets.{begins_short}
 use Rattle.rules.proofs.Laws.Writer.{begins_closed, length_closed}
-use borrow.Author.Rules.{rules}
 use Rattle.append.proofs.closed_here.Goals as goal
 
 pub returns-then-s-n : goal.returns-then-s-n

@@ -1,6 +1,5 @@
 -- `end` meets its contract.
 use Rattle.rules.specs.Writer.{end_bytes}
-use borrow.Author.Rules.{rules}
 use Rattle.append.proofs.end.Goals as goal
 
 pub returns : goal.returns

@@ -1,11 +1,9 @@
 -- `filled` meets its contract: where the bytes reach the end, the zeros make no difference.
 use mathlib.Core.Path.{refl, ◌∙◌}
-use Prim.Native.Nat.{◌-◌}
 use native.Mathlib.Omega.{arith}
 use Rattle.rules.specs.Octets.{zeros}
 use Rattle.rules.proofs.Laws.Octets.{lay_more}
 use Rattle.rules.proofs.Laws.Writer.{laid_on}
-use borrow.Author.Rules.{rules}
 use Rattle.append.proofs.filled.Goals as goal
 
 pub returns-then-data-at : goal.returns-then-data-at

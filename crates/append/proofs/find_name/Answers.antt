@@ -1,12 +1,9 @@
-use mathlib.Core.Path.{◌≡◌, sym, ◌∙◌}
-use Prim.Native.Nat.{◌+◌, ◌-◌, ◌≤◌}
+use mathlib.Core.Path.{sym, ◌∙◌}
 use native.Mathlib.Omega.{arith}
-use lib.ListN.{length, drop, length-drop}
+use lib.ListN.{drop, length-drop}
 use lib.Seq.{drop-drop}
-use Rattle.rules.specs.Writer.{name_offset}
 use Rattle.rules.proofs.Laws.Octets.{take_rest}
 use Rattle.rules.proofs.Laws.Writer.{name_here, name_past, name_nowhere, offset_le}
-use borrow.Author.Rules.{rules}
 use Rattle.append.proofs.find_name.Goals as goal
 
 pub loop-at-init : goal.loop-at-init

@@ -1,13 +1,8 @@
 -- `find_name` meets its contract. The invariant: the offset is the place reached and the offset from there on.
-use mathlib.Core.Path.{◌≡◌, sym, ◌∙◌}
+use mathlib.Core.Path.{◌≡◌}
 use Prim.Native.Nat.{◌+◌, ◌-◌, ◌≤◌}
-use native.Mathlib.Omega.{arith}
-use lib.ListN.{length, drop, length-drop}
-use lib.Seq.{drop-drop}
+use lib.ListN.{length, drop}
 use Rattle.rules.specs.Writer.{name_offset}
-use Rattle.rules.proofs.Laws.Octets.{take_rest}
-use Rattle.rules.proofs.Laws.Writer.{name_here, name_past, name_nowhere, offset_le}
-use borrow.Author.Rules.{rules}
 use Rattle.append.proofs.find_name.Given as goal
 
 abbrev pub invariant-loop-at : goal.invariant-loop-at

@@ -1,9 +1,7 @@
 -- `longs` meets its contract. The invariant: i numbers are laid in.
 use Prim.Native.Nat.{◌-◌}
-use native.Mathlib.Omega.{arith}
 use lib.ListN.{length}
-use Rattle.append.proofs.Laid.{Laid, bits64, laid_none, laid_size, laid_cut, laid_all, laid_more}
-use borrow.Author.Rules.{rules}
+use Rattle.append.proofs.Laid.{Laid, bits64}
 use Rattle.append.proofs.longs.Given as goal
 
 abbrev pub invariant-loop-i : goal.invariant-loop-i

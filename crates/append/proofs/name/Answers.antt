@@ -1,5 +1,4 @@
 -- `name` meets its contract: the closing NUL is one zero.
-use borrow.Author.Rules.{rules}
 use Rattle.append.proofs.name.Goals as goal
 
 pub returns : goal.returns

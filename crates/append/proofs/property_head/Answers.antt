@@ -3,7 +3,6 @@ use mathlib.Core.Path.{◌∙◌}
 use mathlib.Core.List.{append-nil}
 use Rattle.rules.specs.Octets.{words32}
 use Rattle.rules.proofs.Laws.Writer.{be32_low}
-use borrow.Author.Rules.{rules}
 use Rattle.append.proofs.property_head.Goals as goal
 
 pub returns : goal.returns

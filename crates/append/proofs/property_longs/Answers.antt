@@ -7,7 +7,6 @@ use Rattle.rules.specs.Octets.{words64}
 use Rattle.rules.specs.Writer.{property_bytes}
 use Rattle.rules.proofs.Laws.Octets.{lay_past}
 use Rattle.rules.proofs.Laws.Writer.{laid_on, head_bytes, length_head, property_bytes_lem, length_words64, filled_whole}
-use borrow.Author.Rules.{rules}
 use Rattle.append.proofs.property_longs.Goals as goal
 
 pub returns-then-data-at : goal.returns-then-data-at

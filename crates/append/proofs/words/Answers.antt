@@ -1,8 +1,5 @@
-use Prim.Native.Nat.{◌-◌}
 use native.Mathlib.Omega.{arith}
-use lib.ListN.{length}
-use Rattle.append.proofs.Laid.{Laid, bits32, laid_none, laid_size, laid_cut, laid_all, laid_more}
-use borrow.Author.Rules.{rules}
+use Rattle.append.proofs.Laid.{bits32, laid_none, laid_size, laid_cut, laid_all, laid_more}
 use Rattle.append.proofs.words.Goals as goal
 
 pub loop-i-init : goal.loop-i-init

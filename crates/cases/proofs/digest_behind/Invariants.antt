@@ -1,11 +1,8 @@
 -- `digest_behind` meets its contract: the digest of the rest, behind what is passed, is that of all.
-use mathlib.Core.Path.{◌≡◌, refl, sym, ◌∙◌}
+use mathlib.Core.Path.{◌≡◌}
 use Prim.Native.Nat.{◌-◌, ◌≤◌}
-use native.Mathlib.Omega.{arith}
 use lib.ListN.{length, drop}
-use borrow.Author.Rules.{rules}
 use Rattle.cases.specs.Digests.{digest_behind}
-use Rattle.cases.proofs.Turns.{digest_more, digest_end}
 use Rattle.cases.proofs.digest_behind.Given as goal
 
 abbrev pub invariant-loop-i : goal.invariant-loop-i

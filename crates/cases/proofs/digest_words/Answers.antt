@@ -1,9 +1,5 @@
-use mathlib.Core.Path.{◌≡◌, refl, sym, ◌∙◌}
-use Prim.Native.Nat.{◌-◌, ◌≤◌}
+use mathlib.Core.Path.{refl, sym, ◌∙◌}
 use native.Mathlib.Omega.{arith}
-use lib.ListN.{length, drop}
-use borrow.Author.Rules.{rules}
-use Rattle.cases.specs.Digests.{digest_behind, digest_of}
 use Rattle.cases.proofs.Turns.{digest_more, digest_end}
 use Rattle.cases.proofs.digest_words.Goals as goal
 

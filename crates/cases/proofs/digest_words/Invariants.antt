@@ -1,11 +1,8 @@
 -- `digest_words` meets its contract, as `digest_behind` does.
-use mathlib.Core.Path.{◌≡◌, refl, sym, ◌∙◌}
+use mathlib.Core.Path.{◌≡◌}
 use Prim.Native.Nat.{◌-◌, ◌≤◌}
-use native.Mathlib.Omega.{arith}
 use lib.ListN.{length, drop}
-use borrow.Author.Rules.{rules}
 use Rattle.cases.specs.Digests.{digest_behind, digest_of}
-use Rattle.cases.proofs.Turns.{digest_more, digest_end}
 use Rattle.cases.proofs.digest_words.Given as goal
 
 abbrev pub invariant-loop-i : goal.invariant-loop-i

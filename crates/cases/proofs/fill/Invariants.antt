@@ -1,12 +1,8 @@
 -- `fill` meets its contract: the front is filled, and the rest is what it was.
-use mathlib.Core.Path.{◌≡◌, refl, ◌∙◌}
+use mathlib.Core.Path.{◌≡◌}
 use mathlib.Core.List.{◌++◌}
 use Prim.Native.Nat.{◌-◌, ◌≤◌}
-use native.Mathlib.Omega.{arith}
-use lib.ListN.{length, drop, replicate, length-set}
-use borrow.Author.Fill.{fill_none, fill_more}
-use borrow.Author.Rules.{rules}
-use Rattle.cases.proofs.Turns.{filled_all}
+use lib.ListN.{length, drop, replicate}
 use Rattle.cases.proofs.fill.Given as goal
 
 abbrev pub invariant-loop-i : goal.invariant-loop-i

@@ -1,12 +1,8 @@
 -- `fill_words` meets its contract, as `fill` does.
-use mathlib.Core.Path.{◌≡◌, refl, ◌∙◌}
+use mathlib.Core.Path.{◌≡◌}
 use mathlib.Core.List.{◌++◌}
 use Prim.Native.Nat.{◌-◌, ◌≤◌}
-use native.Mathlib.Omega.{arith}
-use lib.ListN.{length, drop, replicate, length-set}
-use borrow.Author.Fill.{fill_none, fill_more}
-use borrow.Author.Rules.{rules}
-use Rattle.cases.proofs.Turns.{filled_all}
+use lib.ListN.{length, drop, replicate}
 use Rattle.cases.proofs.fill_words.Given as goal
 
 abbrev pub invariant-loop-i : goal.invariant-loop-i

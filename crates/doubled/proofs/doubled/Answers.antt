@@ -1,12 +1,8 @@
-use mathlib.Core.Path.{◌≡◌, refl, ◌∙◌}
-use Prim.Native.Nat.{◌-◌, ◌≤◌}
+use mathlib.Core.Path.{refl, ◌∙◌}
 use native.Mathlib.Omega.{arith}
-use lib.ListN.{length}
 use Rattle.rules.proofs.Laws.Tokens.{item_ahead}
 use Rattle.doubled.specs.Passes.{nodes_in}
-use Rattle.doubled.specs.Siblings.{Table}
-use Rattle.doubled.proofs.Twins.{Come, come_start, come_stop, come-begin, come-fault, come_end, come_prop, come_nop, table_clear, node_back, kept_back}
-use borrow.Author.Rules.{rules}
+use Rattle.doubled.proofs.Twins.{come_start, come_stop, come-begin, come-fault, come_end, come_prop, come_nop, table_clear, node_back, kept_back}
 use borrow.Enum.Refused.{opened}
 use Rattle.doubled.proofs.doubled.Goals as goal
 

@@ -1,14 +1,11 @@
 -- `doubled` meets its contract. The invariant: the walk has come here, with the rows of the nodes before, and the work space is as
 -- it was.
-use mathlib.Core.Path.{◌≡◌, refl, ◌∙◌}
+use mathlib.Core.Path.{◌≡◌}
 use Prim.Native.Nat.{◌-◌, ◌≤◌}
-use native.Mathlib.Omega.{arith}
 use lib.ListN.{length}
-use Rattle.rules.proofs.Laws.Tokens.{item_ahead}
 use Rattle.doubled.specs.Passes.{nodes_in}
 use Rattle.doubled.specs.Siblings.{Table}
-use Rattle.doubled.proofs.Twins.{Come, come_start, come_stop, come-begin, come-fault, come_end, come_prop, come_nop, table_clear, node_back, kept_back}
-use borrow.Author.Rules.{rules}
+use Rattle.doubled.proofs.Twins.{Come}
 use Rattle.doubled.proofs.doubled.Given as goal
 
 abbrev pub invariant-loop-kind : goal.invariant-loop-kind

@@ -1,7 +1,5 @@
 -- `named_at` meets its contract.
-use borrow.Author.Tests.{not-true, not-false}
 use Rattle.doubled.specs.Siblings.{named_at}
-use borrow.Author.Rules.{rules}
 use Rattle.doubled.proofs.named_at.Goals as goal
 
 pub returns-then-not-begins : goal.returns-then-not-begins

@@ -7,7 +7,6 @@ use Rattle.rules.specs.Outcome.{◌then◌, first}
 use Rattle.rules.specs.Tree.{doubled_props}
 use Rattle.doubled.specs.Passes.{props_at}
 use Rattle.doubled.specs.Siblings.{sibling_below}
-use borrow.Author.Rules.{rules}
 use Rattle.doubled.proofs.node.Goals as goal
 
 pub returns-then-sibling_below : goal.returns-then-sibling_below

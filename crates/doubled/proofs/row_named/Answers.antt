@@ -8,7 +8,6 @@ use borrow.Author.Tests.{le-ltb, lt-ltb, ne_eqb, eq-eqb, lt-leb, le-leb}
 use Rattle.rules.specs.Ceilings.{node_words}
 use Rattle.rules.specs.Laws.Constants.{NODE_WORDS}
 use Rattle.doubled.specs.Siblings.{named_at, row_named}
-use borrow.Author.Rules.{rules}
 use Rattle.doubled.proofs.row_named.Goals as goal
 
 pub returns-then-work-j : goal.returns-then-work-j

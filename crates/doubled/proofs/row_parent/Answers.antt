@@ -1,7 +1,6 @@
 -- `row_parent` meets its contract.
 use borrow.Author.Tests.{le-ltb, lt-ltb}
 use Rattle.rules.specs.Ceilings.{node_words}
-use borrow.Author.Rules.{rules}
 use Rattle.doubled.proofs.row_parent.Goals as goal
 
 pub returns-then-work-i : goal.returns-then-work-i

@@ -1,10 +1,6 @@
-use mathlib.Core.Path.{◌≡◌, sym, ◌∙◌}
-use mathlib.Core.Bool.{false}
-use Prim.Native.Nat.{◌-◌, ◌≤◌}
+use mathlib.Core.Path.{sym, ◌∙◌}
 use native.Mathlib.Omega.{arith}
-use Rattle.doubled.specs.Siblings.{sibling_below}
 use Rattle.doubled.proofs.Twins.{siblings_none, siblings_more, siblings_hit, siblings_end}
-use borrow.Author.Rules.{rules}
 use Rattle.doubled.proofs.sibling_below.Goals as goal
 
 pub loop-j-init : goal.loop-j-init

@@ -1,11 +1,8 @@
 -- `sibling_below` meets its contract: none before the parent's row, one more, a hit.
-use mathlib.Core.Path.{◌≡◌, sym, ◌∙◌}
+use mathlib.Core.Path.{◌≡◌}
 use mathlib.Core.Bool.{false}
 use Prim.Native.Nat.{◌-◌, ◌≤◌}
-use native.Mathlib.Omega.{arith}
 use Rattle.doubled.specs.Siblings.{sibling_below}
-use Rattle.doubled.proofs.Twins.{siblings_none, siblings_more, siblings_hit, siblings_end}
-use borrow.Author.Rules.{rules}
 use Rattle.doubled.proofs.sibling_below.Given as goal
 
 abbrev pub invariant-loop-j : goal.invariant-loop-j

@@ -3,7 +3,6 @@ use borrow.Author.Tests.{le-leb, lt-leb}
 use Rattle.rules.specs.Ceilings.{entry_ceiling, path_ceiling}
 use Rattle.rules.specs.Octets.{ascii}
 use Rattle.rules.specs.Derivation.{path_at_fault}
-use borrow.Author.Rules.{rules}
 use Rattle.given.proofs.at_fault.Goals as goal
 
 pub returns-then-index-ge-ENTRY_CEILING : goal.returns-then-index-ge-ENTRY_CEILING

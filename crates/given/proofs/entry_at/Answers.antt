@@ -3,7 +3,6 @@ use native.Mathlib.Omega.{arith}
 use borrow.Author.Tests.{lt-ltb, le-ltb}
 use Rattle.rules.proofs.Laws.Given.{given_inside}
 use Rattle.given.specs.Entries.{path_of, entry_at}
-use borrow.Author.Rules.{rules}
 use Rattle.given.proofs.entry_at.Goals as goal
 
 pub returns-then-list-at : goal.returns-then-list-at

@@ -2,7 +2,6 @@
 use borrow.Author.Tests.{lt-ltb, le-ltb}
 use Rattle.rules.specs.Ceilings.{entry_ceiling}
 use Rattle.rules.specs.Derivation.{lists_judged}
-use borrow.Author.Rules.{rules}
 use Rattle.given.proofs.lists_judged.Goals as goal
 
 pub returns-in-Refused : goal.returns-in-Refused

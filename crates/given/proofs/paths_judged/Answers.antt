@@ -1,12 +1,9 @@
 use mathlib.Core.Path.{ap}
-use Prim.Native.Nat.{◌-◌, ◌≤◌}
 use native.Mathlib.Omega.{arith}
-use lib.ListN.{length}
 use Rattle.rules.specs.Ceilings.{entry_ceiling}
 use Rattle.rules.specs.Derivation.{paths_judged}
 use Rattle.rules.proofs.Laws.Given.{given_all}
-use Rattle.given.proofs.Turns.{Rest, at_done, ahead, at_fault, at_good, few}
-use borrow.Author.Rules.{rules}
+use Rattle.given.proofs.Turns.{at_done, ahead, at_fault, at_good, few}
 use Rattle.given.proofs.paths_judged.Goals as goal
 
 pub loop-len-init : goal.loop-len-init

@@ -1,9 +1,7 @@
 use mathlib.Core.Path.{sym, ap, ◌∙◌}
 use mathlib.Core.Bool.{not}
-use Prim.Native.Nat.{◌-◌, ◌<◌}
 use native.Mathlib.Omega.{arith}
-use Rattle.rules.proofs.Laws.Blob.{Searched, search_starts, search_on, entries_none, entries_here}
-use borrow.Author.Rules.{rules}
+use Rattle.rules.proofs.Laws.Blob.{search_starts, search_on, entries_none, entries_here}
 use Rattle.header.proofs.closed.Goals as goal
 
 pub loop-at-init : goal.loop-at-init

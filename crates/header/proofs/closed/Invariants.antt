@@ -1,10 +1,6 @@
 -- `closed` meets its contract. The invariant: the reservations from here on are closed exactly if all are.
-use mathlib.Core.Path.{sym, ap, ◌∙◌}
-use mathlib.Core.Bool.{not}
 use Prim.Native.Nat.{◌-◌, ◌<◌}
-use native.Mathlib.Omega.{arith}
-use Rattle.rules.proofs.Laws.Blob.{Searched, search_starts, search_on, entries_none, entries_here}
-use borrow.Author.Rules.{rules}
+use Rattle.rules.proofs.Laws.Blob.{Searched}
 use Rattle.header.proofs.closed.Given as goal
 
 abbrev pub invariant-loop-at : goal.invariant-loop-at

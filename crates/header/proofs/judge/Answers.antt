@@ -2,7 +2,6 @@
 use borrow.Author.Tests.{lt-ltb, le-ltb, eq-eqb, ne_eqb}
 use Rattle.rules.specs.Blob.{header_in}
 use Rattle.header.proofs.Heads.{in_order}
-use borrow.Author.Rules.{rules}
 use Rattle.header.proofs.judge.Goals as goal
 
 pub returns-then-blob-lt-FDT_HEADER_SIZE : goal.returns-then-blob-lt-FDT_HEADER_SIZE

@@ -4,7 +4,6 @@ use lib.ListN.{length}
 use borrow.Author.Tests.{lt-ltb, le-ltb, eq-eqb, ne_eqb}
 use Rattle.rules.specs.Blob.{header_in, entries_from, entries_in, missing, misplaced}
 use Rattle.header.proofs.Heads.{not_taken, not_left}
-use borrow.Author.Rules.{rules}
 use mathlib.Core.Path.{ap}
 use mathlib.Core.Bool.{not}
 use Rattle.header.proofs.misplaced.Goals as goal

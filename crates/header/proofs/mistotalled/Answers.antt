@@ -2,7 +2,6 @@
 use borrow.Author.Tests.{lt-ltb, le-ltb}
 use Rattle.rules.specs.Ceilings.{blob_ceiling}
 use Rattle.header.specs.Header.{mistotalled}
-use borrow.Author.Rules.{rules}
 use Rattle.header.proofs.mistotalled.Goals as goal
 
 pub returns-then-total-lt-FDT_HEADER_SIZE : goal.returns-then-total-lt-FDT_HEADER_SIZE

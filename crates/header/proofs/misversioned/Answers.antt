@@ -1,7 +1,6 @@
 -- `misversioned` meets its contract.
 use borrow.Author.Tests.{eq-eqb, ne_eqb}
 use Rattle.header.specs.Header.{misversioned}
-use borrow.Author.Rules.{rules}
 use Rattle.header.proofs.misversioned.Goals as goal
 
 pub returns-then-word-ne-FDT_VERSION : goal.returns-then-word-ne-FDT_VERSION

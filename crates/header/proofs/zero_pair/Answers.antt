@@ -1,6 +1,5 @@
 -- `zero_pair` meets its contract.
 use borrow.Author.Tests.{eq-eqb, ne_eqb}
-use borrow.Author.Rules.{rules}
 use Rattle.header.proofs.zero_pair.Goals as goal
 
 pub returns-then-long-ne0 : goal.returns-then-long-ne0

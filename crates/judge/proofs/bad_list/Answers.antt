@@ -2,7 +2,6 @@
 use mathlib.Core.Path.{sym}
 use native.Mathlib.Omega.{arith}
 use Rattle.rules.proofs.Laws.Writer.{bad_none, bad_last}
-use borrow.Author.Rules.{rules}
 use Rattle.judge.proofs.bad_list.Goals as goal
 
 pub returns-then-s-eq0 : goal.returns-then-s-eq0

@@ -4,14 +4,13 @@ use mathlib.Core.Bool.{true, false, not}
 use Prim.Native.Nat.{ℕ, ◌+◌}
 use lib.Dec.{leb, ltb}
 use lib.ListN.{length}
-use borrow.Author.Tests.{le-leb, lt-leb, not-true, not-false}
+use borrow.Author.Tests.{le-leb, lt-leb}
 use Rattle.rules.specs.Ceilings.{blob_ceiling, open_ceiling}
 use Rattle.rules.specs.Octets.{has_nul}
 use Rattle.rules.specs.Names.{node_name_valid}
 use Rattle.rules.specs.Writer.{room, impossible, begin_bytes, begin_judged}
 use Rattle.rules.proofs.Laws.Writer.{length_begin}
 use Rattle.judge.specs.Meaning.{state_of}
-use borrow.Author.Rules.{rules}
 use Rattle.judge.proofs.begin_node.Goals as goal
 
 pub returns-then-impossible : goal.returns-then-impossible

@@ -9,7 +9,6 @@ use Rattle.rules.specs.Ceilings.{blob_ceiling}
 use Rattle.rules.specs.Writer.{room, impossible, end_bytes, end_judged}
 use Rattle.rules.proofs.Laws.Writer.{length_end}
 use Rattle.judge.specs.Meaning.{state_of}
-use borrow.Author.Rules.{rules}
 use Rattle.judge.proofs.end_node.Goals as goal
 
 pub returns-then-impossible : goal.returns-then-impossible

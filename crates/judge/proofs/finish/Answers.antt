@@ -10,7 +10,6 @@ use Rattle.rules.specs.Ceilings.{blob_ceiling}
 use Rattle.rules.specs.Writer.{room, impossible, finish_judged}
 use Rattle.judge.specs.Meaning.{state_of}
 use Rattle.judge.proofs.Possible.{possible}
-use borrow.Author.Rules.{rules}
 use Rattle.judge.proofs.finish.Goals as goal
 
 pub returns-then-impossible : goal.returns-then-impossible

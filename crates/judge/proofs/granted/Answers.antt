@@ -1,5 +1,4 @@
 -- `granted` meets its contract.
-use borrow.Author.Rules.{rules}
 use Rattle.judge.proofs.granted.Goals as goal
 
 pub returns-then-short : goal.returns-then-short

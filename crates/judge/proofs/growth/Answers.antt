@@ -1,6 +1,5 @@
 -- `growth` meets its contract.
 use borrow.Author.Tests.{lt-ltb, le-ltb}
-use borrow.Author.Rules.{rules}
 use Rattle.judge.proofs.growth.Goals as goal
 
 pub returns-then-offset-used : goal.returns-then-offset-used

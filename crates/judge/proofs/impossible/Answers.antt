@@ -7,7 +7,6 @@ use lib.Dec.{ltb, eqb}
 use borrow.Author.Tests.{eq-eqb, ne_eqb, lt-ltb, le-ltb}
 use Rattle.rules.specs.Ceilings.{open_ceiling}
 use Rattle.rules.specs.Writer.{room, impossible}
-use borrow.Author.Rules.{rules}
 use Rattle.judge.proofs.impossible.Goals as goal
 
 pub returns-then-w : goal.returns-then-w

@@ -1,10 +1,6 @@
-use mathlib.Core.Path.{◌≡◌, refl, sym, ◌∙◌}
-use Prim.Native.Nat.{◌-◌, ◌≤◌}
+use mathlib.Core.Path.{refl, sym, ◌∙◌}
 use native.Mathlib.Omega.{arith}
-use lib.ListN.{take, drop}
-use Rattle.rules.specs.Lists.{one_of}
 use Rattle.rules.proofs.Laws.Writer.{one_of_take_here, one_of_more, one_of_take_end}
-use borrow.Author.Rules.{rules}
 use Rattle.judge.proofs.noted.Goals as goal
 
 pub loop-i-init : goal.loop-i-init

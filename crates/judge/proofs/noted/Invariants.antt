@@ -1,11 +1,8 @@
 -- `noted` meets its contract. The invariant: what is left of the first n decides.
-use mathlib.Core.Path.{◌≡◌, refl, sym, ◌∙◌}
+use mathlib.Core.Path.{◌≡◌}
 use Prim.Native.Nat.{◌-◌, ◌≤◌}
-use native.Mathlib.Omega.{arith}
 use lib.ListN.{take, drop}
 use Rattle.rules.specs.Lists.{one_of}
-use Rattle.rules.proofs.Laws.Writer.{one_of_take_here, one_of_more, one_of_take_end}
-use borrow.Author.Rules.{rules}
 use Rattle.judge.proofs.noted.Given as goal
 
 abbrev pub invariant-loop-i : goal.invariant-loop-i

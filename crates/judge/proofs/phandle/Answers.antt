@@ -11,7 +11,6 @@ use Rattle.rules.specs.Writer.{impossible, phandle_judged}
 use Rattle.judge.specs.Meaning.{state_of}
 use Rattle.judge.specs.Judged.{phandle_placed}
 use Rattle.judge.proofs.Phandles.{phandle_not, phandle_full, phandle_at}
-use borrow.Author.Rules.{rules}
 use Rattle.judge.proofs.phandle.Goals as goal
 
 pub returns-then-impossible : goal.returns-then-impossible

@@ -4,7 +4,7 @@ use mathlib.Core.Bool.{true, false, not}
 use Prim.Native.Nat.{ℕ, ◌+◌}
 use lib.Dec.{ltb, eqb}
 use lib.ListN.{length}
-use borrow.Author.Tests.{eq-eqb, ne_eqb, not-true, not-false}
+use borrow.Author.Tests.{eq-eqb, ne_eqb}
 use Rattle.rules.specs.Octets.{has_nul}
 use Rattle.rules.specs.Names.{property_name_valid}
 use Rattle.rules.specs.Outcome.{gives}
@@ -13,7 +13,6 @@ use Rattle.judge.specs.Meaning.{state_of}
 use Rattle.judge.specs.Judged.{sized, placed}
 use Rattle.judge.proofs.Possible.{possible}
 use Rattle.judge.proofs.Properties.{length_grown, growth_eq}
-use borrow.Author.Rules.{rules}
 use Rattle.judge.proofs.property.Goals as goal
 
 pub returns-then-impossible : goal.returns-then-impossible

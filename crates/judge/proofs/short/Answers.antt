@@ -5,7 +5,6 @@ use native.Mathlib.Omega.{arith}
 use borrow.Author.Tests.{lt-ltb}
 use Rattle.rules.specs.Writer.{room}
 use Rattle.rules.proofs.Laws.Tests.{ltb_cong}
-use borrow.Author.Rules.{rules}
 use Rattle.judge.proofs.short.Goals as goal
 
 pub returns-then-most-used : goal.returns-then-most-used

@@ -1,12 +1,7 @@
-use mathlib.Core.Path.{◌≡◌, refl, sym, ◌∙◌}
-use Prim.Native.Nat.{◌-◌, ◌≤◌}
+use mathlib.Core.Path.{refl, sym, ◌∙◌}
 use native.Mathlib.Omega.{arith}
-use lib.ListN.{length, drop}
-use borrow.Author.Tests.{not-true, not-false}
 use Rattle.names.specs.Chars.{char_of}
-use Rattle.rules.specs.Lists.{every}
 use Rattle.rules.proofs.Laws.Names.{every_hit, every_miss, every_end}
-use borrow.Author.Rules.{rules}
 use Rattle.names.proofs.name_chars.Goals as goal
 
 pub loop-i-init : goal.loop-i-init

@@ -1,13 +1,9 @@
 -- `name_chars` meets its contract. The invariant: the answer is that for what is left of s from i on.
-use mathlib.Core.Path.{◌≡◌, refl, sym, ◌∙◌}
+use mathlib.Core.Path.{◌≡◌}
 use Prim.Native.Nat.{◌-◌, ◌≤◌}
-use native.Mathlib.Omega.{arith}
 use lib.ListN.{length, drop}
-use borrow.Author.Tests.{not-true, not-false}
 use Rattle.names.specs.Chars.{char_of}
 use Rattle.rules.specs.Lists.{every}
-use Rattle.rules.proofs.Laws.Names.{every_hit, every_miss, every_end}
-use borrow.Author.Rules.{rules}
 use Rattle.names.proofs.name_chars.Given as goal
 
 abbrev pub invariant-loop-i : goal.invariant-loop-i

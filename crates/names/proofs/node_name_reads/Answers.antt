@@ -1,7 +1,6 @@
 -- `node_name_reads` meets its contract.
 use mathlib.Core.Path.{sym, ◌∙◌}
 use Rattle.rules.proofs.Laws.Names.{node_reads, node_reads_not}
-use borrow.Author.Rules.{rules}
 use Rattle.names.proofs.node_name_reads.Goals as goal
 
 pub returns-then-name-eq0 : goal.returns-then-name-eq0

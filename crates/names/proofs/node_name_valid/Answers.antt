@@ -3,7 +3,7 @@ use mathlib.Core.Path.{◌≡◌, sym, ap, ◌∙◌}
 use mathlib.Core.Bool.{true, false}
 use Prim.Native.Nat.{◌+◌}
 use native.Mathlib.Omega.{arith}
-use borrow.Author.Tests.{le-leb, lt-leb, not-true, not-false}
+use borrow.Author.Tests.{le-leb, lt-leb}
 use lib.ListN.{take}
 use lib.Seq.{length-take-le}
 use Rattle.rules.specs.Ceilings.{node_name_ceiling}
@@ -11,7 +11,6 @@ use Rattle.rules.specs.Names.{node_char}
 use Rattle.rules.specs.Lists.{every}
 use Rattle.rules.proofs.Laws.Octets.{take_rest, to_le}
 use Rattle.rules.proofs.Laws.Names.{node_empty, node_rule, every_end}
-use borrow.Author.Rules.{rules}
 use Rattle.names.proofs.node_name_valid.Goals as goal
 
 pub returns-then-name-eq0 : goal.returns-then-name-eq0

@@ -1,6 +1,5 @@
 -- `property_name_reads` meets its contract.
 use Rattle.rules.specs.Names.{property_name_reads}
-use borrow.Author.Rules.{rules}
 use Rattle.names.proofs.property_name_reads.Goals as goal
 
 pub returns : goal.returns

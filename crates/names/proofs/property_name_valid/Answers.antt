@@ -4,7 +4,6 @@ use borrow.Author.Tests.{le-leb, lt-leb}
 use lib.ListN.{length}
 use Rattle.rules.specs.Ceilings.{property_name_ceiling}
 use Rattle.rules.specs.Names.{property_name_valid}
-use borrow.Author.Rules.{rules}
 use Rattle.names.proofs.property_name_valid.Goals as goal
 
 pub returns-then-name-eq0 : goal.returns-then-name-eq0

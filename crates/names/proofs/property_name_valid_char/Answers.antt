@@ -1,7 +1,6 @@
 -- `property_name_valid_char` meets its contract.
 use mathlib.Core.Path.{sym, ◌∙◌}
 use Rattle.rules.proofs.Laws.Names.{property_more, property_other}
-use borrow.Author.Rules.{rules}
 use Rattle.names.proofs.property_name_valid_char.Goals as goal
 
 pub returns-in-63 : goal.returns-in-63

@@ -1,5 +1,4 @@
 -- `valid_char` meets its contract.
-use borrow.Author.Rules.{rules}
 use Rattle.names.proofs.valid_char.Goals as goal
 
 pub returns-then-property : goal.returns-then-property

@@ -1,10 +1,6 @@
-use mathlib.Core.Path.{◌≡◌, refl, sym, ◌∙◌}
-use Prim.Native.Nat.{◌-◌, ◌≤◌}
+use mathlib.Core.Path.{refl, sym, ◌∙◌}
 use native.Mathlib.Omega.{arith}
-use lib.ListN.{length, drop}
-use Rattle.rules.specs.Octets.{begins}
 use Rattle.rules.proofs.Laws.Octets.{begins_short, begins_more, begins_not, begins_done}
-use borrow.Author.Rules.{rules}
 use Rattle.octets.proofs.begins.Goals as goal
 
 pub returns-then-s-p : goal.returns-then-s-p

@@ -1,7 +1,6 @@
 -- `block` meets its contract.
 use mathlib.Core.Path.{ap₂, ◌∙◌}
 use Rattle.rules.specs.Octets.{part}
-use borrow.Author.Rules.{rules}
 use Rattle.octets.proofs.block.Goals as goal
 
 pub returns : goal.returns

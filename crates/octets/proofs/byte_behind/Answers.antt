@@ -4,7 +4,6 @@ use Prim.Native.Nat.{◌+◌, ◌<◌}
 use native.Mathlib.Omega.{arith}
 use lib.ListN.{length, get_or-eq_default}
 use borrow.Author.Tests.{ltb-true, ltb-false}
-use borrow.Author.Rules.{rules}
 use Rattle.octets.proofs.byte_behind.Goals as goal
 
 pub overflow_add-result : goal.overflow_add-result

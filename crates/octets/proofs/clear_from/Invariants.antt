@@ -1,13 +1,9 @@
 -- `clear_from` meets its contract, as `put_zeros` does.
-use mathlib.Core.Path.{◌≡◌, refl, sym, ◌∙◌}
+use mathlib.Core.Path.{◌≡◌}
 use Prim.Native.Nat.{◌-◌, ◌≤◌, min}
-use native.Mathlib.Nat.{le_antisymm}
-use native.Mathlib.Omega.{arith}
-use lib.ListN.{length, length-set}
-use lib.Seq.{paste-zero}
+use lib.ListN.{length}
 use Rattle.rules.specs.Octets.{zeros}
-use Rattle.rules.proofs.Laws.Octets.{laid, zeros_more, lay_zeros}
-use borrow.Author.Rules.{rules}
+use Rattle.rules.proofs.Laws.Octets.{laid}
 use Rattle.octets.proofs.clear_from.Given as goal
 
 abbrev pub invariant-loop-k : goal.invariant-loop-k

@@ -5,7 +5,6 @@ use native.Mathlib.Omega.{arith}
 use lib.ListN.{length, drop, length-drop}
 use Rattle.rules.specs.Octets.{begins}
 use Rattle.rules.proofs.Laws.Octets.{ends_short, ends_at, begins_same, take_rest}
-use borrow.Author.Rules.{rules}
 use Rattle.octets.proofs.ends.Goals as goal
 
 pub returns-then-s-e : goal.returns-then-s-e

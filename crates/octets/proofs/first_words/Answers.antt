@@ -2,7 +2,6 @@
 use mathlib.Core.Path.{sym}
 use native.Mathlib.Omega.{arith}
 use lib.Seq.{take_all, length-take-le}
-use borrow.Author.Rules.{rules}
 use Rattle.octets.proofs.first_words.Goals as goal
 
 pub returns-then-d-n : goal.returns-then-d-n

@@ -1,10 +1,7 @@
-use mathlib.Core.Path.{◌≡◌, refl, sym, ap, ◌∙◌}
-use Prim.Native.Nat.{◌-◌, ◌≤◌}
+use mathlib.Core.Path.{refl, sym, ap, ◌∙◌}
 use native.Mathlib.Omega.{arith}
-use lib.ListN.{length, drop}
-use Rattle.rules.specs.Octets.{begins, holds}
+use Rattle.rules.specs.Octets.{begins}
 use Rattle.rules.proofs.Laws.Octets.{holds_here, holds_more, holds_end, take_rest}
-use borrow.Author.Rules.{rules}
 use Rattle.octets.proofs.holds.Goals as goal
 
 pub loop-i-init : goal.loop-i-init

@@ -1,11 +1,8 @@
 -- `holds` meets its contract. The invariant: the answer is that for what is left of s from i on.
-use mathlib.Core.Path.{◌≡◌, refl, sym, ap, ◌∙◌}
+use mathlib.Core.Path.{◌≡◌}
 use Prim.Native.Nat.{◌-◌, ◌≤◌}
-use native.Mathlib.Omega.{arith}
 use lib.ListN.{length, drop}
-use Rattle.rules.specs.Octets.{begins, holds}
-use Rattle.rules.proofs.Laws.Octets.{holds_here, holds_more, holds_end, take_rest}
-use borrow.Author.Rules.{rules}
+use Rattle.rules.specs.Octets.{holds}
 use Rattle.octets.proofs.holds.Given as goal
 
 abbrev pub invariant-loop-i : goal.invariant-loop-i

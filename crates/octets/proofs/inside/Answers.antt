@@ -3,7 +3,6 @@ use Prim.Native.Nat.{◌+◌, ◌-◌}
 use native.Mathlib.Omega.{arith}
 use borrow.Author.Tests.{le-ltb}
 use Rattle.rules.proofs.Laws.Tests.{ltb_cong}
-use borrow.Author.Rules.{rules}
 use Rattle.octets.proofs.inside.Goals as goal
 
 pub returns-then-len-at : goal.returns-then-len-at

@@ -1,10 +1,5 @@
-use mathlib.Core.Path.{◌≡◌}
-use Prim.Native.Nat.{◌+◌, ◌-◌, ◌≤◌}
 use native.Mathlib.Omega.{arith}
-use lib.ListN.{length, drop}
-use Rattle.rules.specs.Octets.{length_to}
 use Rattle.rules.proofs.Laws.Octets.{to_here, to_more, to_end}
-use borrow.Author.Rules.{rules}
 use Rattle.octets.proofs.length_to.Goals as goal
 
 pub returns-then-s-end : goal.returns-then-s-end

@@ -2,11 +2,8 @@
 -- the first from `at` on.
 use mathlib.Core.Path.{◌≡◌}
 use Prim.Native.Nat.{◌+◌, ◌-◌, ◌≤◌}
-use native.Mathlib.Omega.{arith}
 use lib.ListN.{length, drop}
 use Rattle.rules.specs.Octets.{length_to}
-use Rattle.rules.proofs.Laws.Octets.{to_here, to_more, to_end}
-use borrow.Author.Rules.{rules}
 use Rattle.octets.proofs.length_to.Given as goal
 
 abbrev pub invariant-loop-end : goal.invariant-loop-end

@@ -6,7 +6,6 @@ use lib.ListN.{length}
 use borrow.Author.Tests.{ltb-true, ltb-false}
 use Rattle.rules.specs.Octets.{long_at}
 use Rattle.rules.proofs.Laws.Octets.{word_past}
-use borrow.Author.Rules.{rules}
 use Rattle.octets.proofs.long.Goals as goal
 
 pub overflow_add-at : goal.overflow_add-at

@@ -5,7 +5,6 @@ use native.Mathlib.Omega.{arith}
 use lib.ListN.{take, drop, drop_of_length-le, length-drop}
 use lib.Seq.{take-nil, take_all}
 use Rattle.rules.proofs.Laws.Octets.{take_rest}
-use borrow.Author.Rules.{rules}
 use Rattle.octets.proofs.part.Goals as goal
 
 pub returns-then-len-at : goal.returns-then-len-at

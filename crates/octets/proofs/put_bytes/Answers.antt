@@ -1,11 +1,9 @@
-use mathlib.Core.Path.{◌≡◌, refl, sym, ◌∙◌}
-use Prim.Native.Nat.{◌-◌, ◌≤◌, min}
+use mathlib.Core.Path.{refl, sym, ◌∙◌}
 use native.Mathlib.Nat.{le_antisymm}
 use native.Mathlib.Omega.{arith}
-use lib.ListN.{length, length-set}
+use lib.ListN.{length-set}
 use lib.Seq.{paste-zero}
-use Rattle.rules.proofs.Laws.Octets.{laid, laid_more, lay_paste}
-use borrow.Author.Rules.{rules}
+use Rattle.rules.proofs.Laws.Octets.{laid_more, lay_paste}
 use Rattle.octets.proofs.put_bytes.Goals as goal
 
 pub loop-i-init : goal.loop-i-init

@@ -1,12 +1,8 @@
 -- `put_bytes` meets its contract. The invariant: i bytes of src are laid in, and the buffer is as long as it was.
-use mathlib.Core.Path.{◌≡◌, refl, sym, ◌∙◌}
+use mathlib.Core.Path.{◌≡◌}
 use Prim.Native.Nat.{◌-◌, ◌≤◌, min}
-use native.Mathlib.Nat.{le_antisymm}
-use native.Mathlib.Omega.{arith}
-use lib.ListN.{length, length-set}
-use lib.Seq.{paste-zero}
-use Rattle.rules.proofs.Laws.Octets.{laid, laid_more, lay_paste}
-use borrow.Author.Rules.{rules}
+use lib.ListN.{length}
+use Rattle.rules.proofs.Laws.Octets.{laid}
 use Rattle.octets.proofs.put_bytes.Given as goal
 
 abbrev pub invariant-loop-i : goal.invariant-loop-i

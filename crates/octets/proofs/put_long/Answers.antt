@@ -7,7 +7,6 @@ use lib.ListN.{length}
 use borrow.Author.Tests.{ltb-true, ltb-false}
 use Rattle.rules.specs.Octets.{be32, lay}
 use Rattle.rules.proofs.Laws.Octets.{lay_long, lay_long_cut}
-use borrow.Author.Rules.{rules}
 use Rattle.octets.proofs.put_long.Goals as goal
 
 pub overflow_add-at : goal.overflow_add-at

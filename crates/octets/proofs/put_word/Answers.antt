@@ -6,7 +6,6 @@ use lib.ListN.{length, length-set}
 use borrow.Author.Tests.{ltb-true}
 use Rattle.rules.specs.Octets.{be32}
 use Rattle.rules.proofs.Laws.Octets.{lay_four}
-use borrow.Author.Rules.{rules}
 use Rattle.octets.proofs.put_word.Goals as goal
 
 pub bounds-d-at : goal.bounds-d-at

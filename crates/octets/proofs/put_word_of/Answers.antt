@@ -2,7 +2,6 @@
 use mathlib.Core.Path.{sym}
 use mathlib.Core.List.{[], ◌∷◌}
 use Rattle.rules.proofs.Laws.Octets.{lay_one, lay_past}
-use borrow.Author.Rules.{rules}
 use Rattle.octets.proofs.put_word_of.Goals as goal
 
 pub returns-then-at-d : goal.returns-then-at-d

@@ -1,12 +1,10 @@
-use mathlib.Core.Path.{◌≡◌, refl, sym, ◌∙◌}
-use Prim.Native.Nat.{◌-◌, ◌≤◌, min}
+use mathlib.Core.Path.{refl, sym, ◌∙◌}
 use native.Mathlib.Nat.{le_antisymm}
 use native.Mathlib.Omega.{arith}
-use lib.ListN.{length, length-set}
+use lib.ListN.{length-set}
 use lib.Seq.{paste-zero}
 use Rattle.rules.specs.Octets.{zeros}
-use Rattle.rules.proofs.Laws.Octets.{laid, zeros_more, lay_zeros}
-use borrow.Author.Rules.{rules}
+use Rattle.rules.proofs.Laws.Octets.{zeros_more, lay_zeros}
 use Rattle.octets.proofs.put_zeros.Goals as goal
 
 pub loop-i-init : goal.loop-i-init

@@ -2,7 +2,6 @@
 use mathlib.Core.Path.{sym, ap, ◌∙◌}
 use lib.ListN.{length}
 use Rattle.rules.proofs.Laws.Octets.{ne_same, begins_same}
-use borrow.Author.Rules.{rules}
 use Rattle.octets.proofs.same.Goals as goal
 
 pub returns-then-a-b : goal.returns-then-a-b

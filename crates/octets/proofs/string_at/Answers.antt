@@ -3,7 +3,6 @@ use mathlib.Core.Path.{ap, ◌∙◌}
 use Prim.Native.Nat.{ℕ}
 use Rattle.rules.specs.Octets.{part}
 use Rattle.rules.specs.Events.{string_at}
-use borrow.Author.Rules.{rules}
 use Rattle.octets.proofs.string_at.Goals as goal
 
 pub returns : goal.returns

@@ -5,7 +5,6 @@ use native.Mathlib.Omega.{arith}
 use lib.ListN.{length}
 use borrow.Author.Tests.{ltb-true}
 use Rattle.rules.specs.Octets.{word_at}
-use borrow.Author.Rules.{rules}
 use Rattle.octets.proofs.word.Goals as goal
 
 pub bounds-s-at : goal.bounds-s-at

@@ -1,7 +1,6 @@
 -- `word_of` meets its contract.
 use mathlib.Core.Path.{sym}
 use lib.ListN.{get_or-eq_default}
-use borrow.Author.Rules.{rules}
 use Rattle.octets.proofs.word_of.Goals as goal
 
 pub returns-else-at-d : goal.returns-else-at-d

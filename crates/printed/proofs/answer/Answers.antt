@@ -4,7 +4,6 @@ use Rattle.rules.specs.Octets.{Bytes, ascii}
 use Rattle.rules.specs.Program.{decimal, newline}
 use Rattle.printed.specs.Text.{in_lines, answer_text}
 use Rattle.printed.proofs.Laying.{then, front}
-use borrow.Author.Rules.{rules}
 use Rattle.printed.proofs.answer.Goals as goal
 
 pub returns : goal.returns

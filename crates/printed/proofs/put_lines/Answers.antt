@@ -1,13 +1,10 @@
-use mathlib.Core.Path.{◌≡◌, refl, ◌∙◌}
-use Prim.Native.Nat.{◌+◌, ◌-◌, ◌≤◌, min}
+use mathlib.Core.Path.{refl, ◌∙◌}
 use native.Mathlib.Nat.{sub_self}
 use native.Mathlib.Omega.{arith}
-use lib.ListN.{length, length-set}
+use lib.ListN.{length-set}
 use lib.Seq.{paste-zero}
-use Rattle.rules.proofs.Laws.Octets.{laid}
 use Rattle.printed.specs.Text.{in_lines, length_lines}
 use Rattle.printed.proofs.Laying.{line_more, lines_done}
-use borrow.Author.Rules.{rules}
 use Rattle.printed.proofs.put_lines.Goals as goal
 
 pub loop-p-init : goal.loop-p-init

@@ -1,14 +1,9 @@
 -- `put_lines` meets its contract. The invariant: the bytes of the list before the place are laid in, each as a line has it.
-use mathlib.Core.Path.{◌≡◌, refl, ◌∙◌}
+use mathlib.Core.Path.{◌≡◌}
 use Prim.Native.Nat.{◌+◌, ◌-◌, ◌≤◌, min}
-use native.Mathlib.Nat.{sub_self}
-use native.Mathlib.Omega.{arith}
-use lib.ListN.{length, length-set}
-use lib.Seq.{paste-zero}
+use lib.ListN.{length}
 use Rattle.rules.proofs.Laws.Octets.{laid}
-use Rattle.printed.specs.Text.{in_lines, length_lines}
-use Rattle.printed.proofs.Laying.{line_more, lines_done}
-use borrow.Author.Rules.{rules}
+use Rattle.printed.specs.Text.{in_lines}
 use Rattle.printed.proofs.put_lines.Given as goal
 
 abbrev pub invariant-loop-p : goal.invariant-loop-p

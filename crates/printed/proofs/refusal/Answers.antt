@@ -3,7 +3,6 @@ use mathlib.Core.List.{◌++◌}
 use Rattle.rules.specs.Octets.{ascii}
 use Rattle.rules.specs.Program.{decimal, newline, printed_refusal}
 use Rattle.printed.proofs.Laying.{then, front}
-use borrow.Author.Rules.{rules}
 use Rattle.printed.proofs.refusal.Goals as goal
 
 pub returns : goal.returns

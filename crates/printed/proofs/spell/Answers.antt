@@ -1,9 +1,7 @@
 use mathlib.Core.Path.{sym, ◌∙◌}
-use Prim.Native.Nat.{◌-◌}
 use native.Mathlib.Omega.{arith}
 use lib.ListN.{length-set}
-use Rattle.printed.proofs.Spelling.{Spelling, spelling_none, spelling_place, spelling_more, spelling_last}
-use borrow.Author.Rules.{rules}
+use Rattle.printed.proofs.Spelling.{spelling_none, spelling_place, spelling_more, spelling_last}
 use Rattle.printed.proofs.spell.Goals as goal
 
 pub loop-rest-init : goal.loop-rest-init

@@ -1,10 +1,6 @@
-use mathlib.Core.Path.{◌≡◌, sym, ◌∙◌}
-use Prim.Native.Nat.{◌-◌, ◌^◌, ◌≤◌, ◌<◌}
+use mathlib.Core.Path.{sym, ◌∙◌}
 use native.Mathlib.Omega.{arith}
-use lib.ListN.{length, drop}
-use Rattle.rules.specs.Program.{decimal_said}
-use Rattle.rules.proofs.Laws.Program.{decimal_from, decimal_none, decimal_some, decimal_more, decimal_low, decimal_high, decimal_big, decimal_done}
-use borrow.Author.Rules.{rules}
+use Rattle.rules.proofs.Laws.Program.{decimal_none, decimal_some, decimal_more, decimal_low, decimal_high, decimal_big, decimal_done}
 use Rattle.request.proofs.decimal_said.Goals as goal
 
 pub returns-then-digits-eq0 : goal.returns-then-digits-eq0

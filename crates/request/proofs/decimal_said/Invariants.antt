@@ -1,11 +1,9 @@
 -- `decimal_said` meets its contract. The invariant: the digits from i on, behind the number so far, say what all of them say.
-use mathlib.Core.Path.{◌≡◌, sym, ◌∙◌}
+use mathlib.Core.Path.{◌≡◌}
 use Prim.Native.Nat.{◌-◌, ◌^◌, ◌≤◌, ◌<◌}
-use native.Mathlib.Omega.{arith}
 use lib.ListN.{length, drop}
 use Rattle.rules.specs.Program.{decimal_said}
-use Rattle.rules.proofs.Laws.Program.{decimal_from, decimal_none, decimal_some, decimal_more, decimal_low, decimal_high, decimal_big, decimal_done}
-use borrow.Author.Rules.{rules}
+use Rattle.rules.proofs.Laws.Program.{decimal_from}
 use Rattle.request.proofs.decimal_said.Given as goal
 
 abbrev pub invariant-loop-i : goal.invariant-loop-i

@@ -4,7 +4,6 @@ use native.Mathlib.Omega.{arith}
 use lib.ListN.{length}
 use Rattle.rules.proofs.Laws.Octets.{lay_nil}
 use Rattle.request.proofs.Entered.{is_names, names_none, names_one}
-use borrow.Author.Rules.{rules}
 use Rattle.request.proofs.id_entered.Goals as goal
 
 pub overflow_add-result : goal.overflow_add-result

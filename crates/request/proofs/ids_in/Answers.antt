@@ -1,6 +1,5 @@
 use mathlib.Core.List.{[]}
 use mathlib.Core.Path.{ap, ◌∙◌, subst}
-use Prim.Native.Nat.{◌-◌, ◌≤◌}
 use native.Mathlib.Omega.{arith}
 use lib.ListN.{length}
 use Rattle.rules.specs.Program.{lines_of, line_said, ids_in, named_by}
@@ -8,7 +7,6 @@ use Rattle.rules.proofs.Laws.Octets.{length_lay}
 use Rattle.rules.specs.Laws.Program.{lines_at}
 use Rattle.rules.proofs.Laws.Program.{lines_all, Laying, laying_none, laying_more, laying_bytes, laying_count}
 use Rattle.request.proofs.Turns.{ids_done, ids_more, one_id, further, inside}
-use borrow.Author.Rules.{rules}
 use Rattle.request.proofs.ids_in.Goals as goal
 
 pub loop-len-init : goal.loop-len-init

@@ -1,11 +1,8 @@
-use Prim.Native.Nat.{◌-◌, ◌≤◌}
 use native.Mathlib.Omega.{arith}
-use lib.ListN.{length}
 use borrow.Author.Tests.{lt-ltb}
 use Rattle.rules.specs.Ceilings.{program_ceiling}
 use Rattle.rules.specs.Program.{input_judged}
-use Rattle.request.proofs.Turns.{Rest, at_start_lem, at_done, at_fault, at_good, further, inside}
-use borrow.Author.Rules.{rules}
+use Rattle.request.proofs.Turns.{at_start_lem, at_done, at_fault, at_good, further, inside}
 use Rattle.request.proofs.input_judged.Goals as goal
 
 pub returns-then-input-gt-PROGRAM_CEILING : goal.returns-then-input-gt-PROGRAM_CEILING

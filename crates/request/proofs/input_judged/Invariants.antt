@@ -1,12 +1,7 @@
 -- `input_judged` meets its contract. The invariant: the rest of the lines, judged from here, is the whole input judged.
 use Prim.Native.Nat.{◌-◌, ◌≤◌}
-use native.Mathlib.Omega.{arith}
 use lib.ListN.{length}
-use borrow.Author.Tests.{lt-ltb}
-use Rattle.rules.specs.Ceilings.{program_ceiling}
-use Rattle.rules.specs.Program.{input_judged}
-use Rattle.request.proofs.Turns.{Rest, at_start_lem, at_done, at_fault, at_good, further, inside}
-use borrow.Author.Rules.{rules}
+use Rattle.request.proofs.Turns.{Rest}
 use Rattle.request.proofs.input_judged.Given as goal
 
 abbrev pub invariant-loop-len : goal.invariant-loop-len

@@ -1,5 +1,4 @@
 -- `is_other` meets its contract: a case for each thing that a line can say.
-use borrow.Author.Rules.{rules}
 use Rattle.request.proofs.is_other.Goals as goal
 
 pub returns-in-Configures : goal.returns-in-Configures

@@ -3,7 +3,6 @@ use native.Mathlib.Omega.{arith}
 use borrow.Author.Tests.{lt-ltb, le-ltb}
 use Rattle.rules.proofs.Laws.Program.{lines_inside}
 use Rattle.request.specs.Lines.{text_of, line_at}
-use borrow.Author.Rules.{rules}
 use Rattle.request.proofs.line_at.Goals as goal
 
 pub returns-then-input-at : goal.returns-then-input-at

@@ -6,7 +6,6 @@ use lib.Seq.{take_all}
 use borrow.Author.Tests.{lt-ltb, le-ltb}
 use Rattle.rules.specs.Octets.{ascii}
 use Rattle.rules.specs.Program.{line_said, decimal_said}
-use borrow.Author.Rules.{rules}
 use Rattle.request.proofs.line_said.Goals as goal
 
 pub returns-then-nul-text : goal.returns-then-nul-text

@@ -1,13 +1,11 @@
 -- `path_entered` meets its contract: nothing is laid, or the path and its NUL.
 use mathlib.Core.Path.{refl, sym, ap, ◌∙◌}
 use mathlib.Core.List.{[], ◌∷◌, ◌++◌}
-use Prim.Native.Nat.{◌+◌}
 use native.Mathlib.Omega.{arith}
 use lib.ListN.{length, length-append}
 use Rattle.rules.specs.Octets.{Bytes, zeros}
 use Rattle.rules.proofs.Laws.Octets.{lay_nil, lay_then}
 use Rattle.request.proofs.Entered.{skipped, entered, path_all, path_short}
-use borrow.Author.Rules.{rules}
 use mathlib.Core.Bool.{not}
 use Rattle.request.proofs.path_entered.Goals as goal
 

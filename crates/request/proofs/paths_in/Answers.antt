@@ -1,6 +1,5 @@
 use mathlib.Core.List.{[]}
 use mathlib.Core.Path.{ap, ◌∙◌, subst}
-use Prim.Native.Nat.{◌-◌, ◌≤◌}
 use native.Mathlib.Omega.{arith}
 use lib.ListN.{length}
 use Rattle.rules.specs.Octets.{part}
@@ -10,7 +9,6 @@ use Rattle.rules.specs.Laws.Program.{lines_at}
 use Rattle.rules.proofs.Laws.Program.{lines_all, Laying, laying_none, laying_more, laying_bytes, laying_count}
 use Rattle.request.specs.Answers.{listed_by, list_in}
 use Rattle.request.proofs.Turns.{listed_done, listed_more, further, behind, inside}
-use borrow.Author.Rules.{rules}
 use Rattle.request.proofs.paths_in.Goals as goal
 
 pub loop-len-init : goal.loop-len-init

@@ -1,17 +1,10 @@
 -- `paths_in` meets its contract. The invariant: what the lines so far add is laid, and what the others add is the rest of the list.
-use mathlib.Core.List.{[]}
-use mathlib.Core.Path.{ap, ◌∙◌, subst}
 use Prim.Native.Nat.{◌-◌, ◌≤◌}
-use native.Mathlib.Omega.{arith}
 use lib.ListN.{length}
-use Rattle.rules.specs.Octets.{part}
-use Rattle.rules.specs.Program.{lines_of, line_said}
-use Rattle.rules.proofs.Laws.Octets.{length_lay}
+use Rattle.rules.specs.Program.{lines_of}
 use Rattle.rules.specs.Laws.Program.{lines_at}
-use Rattle.rules.proofs.Laws.Program.{lines_all, Laying, laying_none, laying_more, laying_bytes, laying_count}
-use Rattle.request.specs.Answers.{listed_by, list_in}
-use Rattle.request.proofs.Turns.{listed_done, listed_more, further, behind, inside}
-use borrow.Author.Rules.{rules}
+use Rattle.rules.proofs.Laws.Program.{Laying}
+use Rattle.request.specs.Answers.{list_in}
 use Rattle.request.proofs.paths_in.Given as goal
 
 abbrev pub invariant-loop-len : goal.invariant-loop-len

@@ -2,7 +2,6 @@
 use mathlib.Core.Path.{sym}
 use mathlib.Core.List.{[], ◌∷◌}
 use Rattle.rules.proofs.Laws.Octets.{lay_one, lay_past}
-use borrow.Author.Rules.{rules}
 use Rattle.request.proofs.put_id.Goals as goal
 
 pub returns-then-at-out : goal.returns-then-at-out

@@ -1,7 +1,6 @@
 use mathlib.Core.Path.{◌≡◌, sym, ap, ◌∙◌}
-use Prim.Native.Nat.{◌-◌, ◌≤◌}
 use native.Mathlib.Omega.{arith}
-use lib.ListN.{length, take, drop}
+use lib.ListN.{length}
 use Rattle.rules.specs.Ceilings.{reservation_ceiling}
 use Rattle.rules.specs.Reservations.{any_invalid}
 use Rattle.rules.proofs.Laws.Reservations.{invalid_end}

@@ -1,14 +1,9 @@
 -- `any_invalid` meets its contract. The invariant: the answer is that for the entries from i on.
-use mathlib.Core.Path.{◌≡◌, sym, ap, ◌∙◌}
+use mathlib.Core.Path.{◌≡◌}
 use Prim.Native.Nat.{◌-◌, ◌≤◌}
-use native.Mathlib.Omega.{arith}
 use lib.ListN.{length, take, drop}
-use Rattle.rules.specs.Ceilings.{reservation_ceiling}
 use Rattle.rules.specs.Reservations.{any_invalid}
-use Rattle.rules.proofs.Laws.Reservations.{invalid_end}
 use Rattle.reservation.specs.Made.{entries_of}
-use Rattle.reservation.proofs.Entries.{take_counted, invalid_at}
-use borrow.Author.Rules.{rules}
 use Rattle.reservation.proofs.any_invalid.Given as goal
 
 abbrev pub invariant-loop-i : goal.invariant-loop-i

@@ -1,9 +1,7 @@
 use mathlib.Core.Path.{◌≡◌, refl, sym, ◌∙◌}
-use Prim.Native.Nat.{◌-◌, ◌≤◌}
 use native.Mathlib.Omega.{arith}
-use lib.ListN.{length, take, drop}
+use lib.ListN.{length}
 use Rattle.rules.specs.Ceilings.{reservation_ceiling}
-use Rattle.rules.specs.Laws.Reservations.{any_meets}
 use Rattle.rules.proofs.Laws.Reservations.{meets_end}
 use Rattle.reservation.specs.Made.{entry_of, entries_of}
 use Rattle.reservation.proofs.Entries.{meets_at}

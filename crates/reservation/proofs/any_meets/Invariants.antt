@@ -1,14 +1,9 @@
 -- `any_meets` meets its contract. The invariant: the answer is that for the entries from i on.
-use mathlib.Core.Path.{◌≡◌, refl, sym, ◌∙◌}
+use mathlib.Core.Path.{◌≡◌}
 use Prim.Native.Nat.{◌-◌, ◌≤◌}
-use native.Mathlib.Omega.{arith}
 use lib.ListN.{length, take, drop}
-use Rattle.rules.specs.Ceilings.{reservation_ceiling}
 use Rattle.rules.specs.Laws.Reservations.{any_meets}
-use Rattle.rules.proofs.Laws.Reservations.{meets_end}
 use Rattle.reservation.specs.Made.{entry_of, entries_of}
-use Rattle.reservation.proofs.Entries.{meets_at}
-use borrow.Author.Rules.{rules}
 use Rattle.reservation.proofs.any_meets.Given as goal
 
 abbrev pub invariant-loop-i : goal.invariant-loop-i

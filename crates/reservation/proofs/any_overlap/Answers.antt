@@ -1,10 +1,8 @@
 use mathlib.Core.List.{[]}
 use mathlib.Core.Path.{◌≡◌, sym, ap, ◌∙◌}
-use Prim.Native.Nat.{◌-◌, ◌≤◌}
 use native.Mathlib.Omega.{arith}
-use lib.ListN.{length, take, drop}
+use lib.ListN.{length, take}
 use Rattle.rules.specs.Ceilings.{reservation_ceiling}
-use Rattle.rules.specs.Reservations.{overlapping}
 use Rattle.rules.proofs.Laws.Reservations.{pairs_from, pairs_end, overlapping_pairs}
 use Rattle.reservation.specs.Made.{entries_of}
 use Rattle.reservation.proofs.Entries.{take_counted, pairs_at}

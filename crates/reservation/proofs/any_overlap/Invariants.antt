@@ -1,15 +1,10 @@
 -- `any_overlap` meets its contract. The invariant: the answer is that for the pairs whose later entry stands at i or behind it.
-use mathlib.Core.List.{[]}
-use mathlib.Core.Path.{◌≡◌, sym, ap, ◌∙◌}
+use mathlib.Core.Path.{◌≡◌}
 use Prim.Native.Nat.{◌-◌, ◌≤◌}
-use native.Mathlib.Omega.{arith}
 use lib.ListN.{length, take, drop}
-use Rattle.rules.specs.Ceilings.{reservation_ceiling}
 use Rattle.rules.specs.Reservations.{overlapping}
-use Rattle.rules.proofs.Laws.Reservations.{pairs_from, pairs_end, overlapping_pairs}
+use Rattle.rules.proofs.Laws.Reservations.{pairs_from}
 use Rattle.reservation.specs.Made.{entries_of}
-use Rattle.reservation.proofs.Entries.{take_counted, pairs_at}
-use borrow.Author.Rules.{rules}
 use Rattle.reservation.proofs.any_overlap.Given as goal
 
 abbrev pub invariant-loop-i : goal.invariant-loop-i

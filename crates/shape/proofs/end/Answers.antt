@@ -8,7 +8,6 @@ use Rattle.shape.specs.declared.Refusal.TheVariants.{Shape}
 use Rattle.shape.specs.declared.Answer.TheVariants.{Nodes, Refused}
 use Rattle.shape.specs.Shape.{Ends}
 use Rattle.shape.proofs.Steps.{not_end, end_stops, end_done}
-use borrow.Author.Rules.{rules}
 use borrow.Enum.Refused.{opened}
 use mathlib.Core.Path.{ap}
 use mathlib.Core.Bool.{not}

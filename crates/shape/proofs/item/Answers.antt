@@ -8,7 +8,6 @@ use Rattle.rules.specs.declared.Kind.{Kind}
 use Rattle.shape.specs.declared.Turn.TheVariants.{Opens, Stays}
 use Rattle.shape.specs.Shape.{Does, DoesItem}
 use Rattle.shape.proofs.Steps.{stays}
-use borrow.Author.Rules.{rules}
 use Rattle.shape.proofs.item.Goals as goal
 
 pub returns-in-Begin : goal.returns-in-Begin

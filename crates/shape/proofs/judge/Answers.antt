@@ -1,14 +1,13 @@
 use mathlib.Core.Path.{sym, subst}
-use Prim.Native.Nat.{◌+◌, ◌-◌, ◌*◌}
+use Prim.Native.Nat.{◌+◌, ◌*◌}
 use native.Mathlib.Omega.{arith}
-use lib.ListN.{length, set, length-set}
+use lib.ListN.{set, length-set}
 use Rattle.rules.specs.Ceilings.{blob_ceiling, node_ceiling}
 use Rattle.rules.specs.Blob.{block_of}
 use Rattle.rules.proofs.Laws.Reader.{table_fits}
 use Rattle.rules.specs.Laws.Constants.{NODE_WORDS}
 use Rattle.shape.specs.declared.Walk.{Walk}
 use Rattle.shape.proofs.Walks.{Inv, starts, as_long, node_small, ahead, at_stop, opens_room, closes_room, closes_node, at_open, at_close, at_stay, at_end}
-use borrow.Author.Rules.{rules}
 use borrow.Enum.Refused.{opened}
 use Rattle.shape.proofs.judge.Goals as goal
 

@@ -6,7 +6,6 @@ use Rattle.rules.specs.Ceilings.{open_ceiling, node_ceiling}
 use Rattle.rules.proofs.Laws.Events.{opening_root, opening_inner}
 use Rattle.shape.specs.declared.Refusal.TheVariants.{Shape, Name, Deep, Many}
 use Rattle.shape.proofs.Steps.{stops, opens}
-use borrow.Author.Rules.{rules}
 use mathlib.Core.Path.{ap}
 use mathlib.Core.Bool.{not}
 use Rattle.shape.proofs.opening.Goals as goal

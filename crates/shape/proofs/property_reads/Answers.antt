@@ -1,12 +1,10 @@
 -- `property_reads` meets its contract.
 use mathlib.Core.Path.{◌∙◌}
-use Prim.Native.Nat.{◌-◌}
 use native.Mathlib.Omega.{arith}
 use lib.ListN.{length, drop, length-drop}
 use borrow.Author.Tests.{lt-ltb, le-ltb}
 use Rattle.rules.specs.Octets.{nul_in}
 use Rattle.rules.specs.Events.{string_at, property_reads}
-use borrow.Author.Rules.{rules}
 use Rattle.shape.proofs.property_reads.Goals as goal
 
 pub returns-then-strings-offset : goal.returns-then-strings-offset

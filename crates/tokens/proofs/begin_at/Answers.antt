@@ -4,7 +4,6 @@ use lib.ListN.{drop, length-drop}
 use borrow.Author.Tests.{le-leb, lt-leb}
 use Rattle.rules.specs.Tokens.{begin_at}
 use Rattle.rules.proofs.Laws.Octets.{nul_le}
-use borrow.Author.Rules.{rules}
 use Rattle.tokens.proofs.begin_at.Goals as goal
 
 pub overflow_add-next : goal.overflow_add-next

@@ -1,6 +1,5 @@
 -- `behind` meets its contract.
 use Rattle.tokens.proofs.Properties.{behind_item, behind_stop}
-use borrow.Author.Rules.{rules}
 use borrow.Enum.Refused.{opened}
 use Rattle.tokens.proofs.behind.Goals as goal
 

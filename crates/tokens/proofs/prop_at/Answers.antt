@@ -1,7 +1,6 @@
 -- `prop_at` meets its contract.
 use borrow.Author.Tests.{le-leb, lt-leb}
 use Rattle.rules.specs.Tokens.{prop_at}
-use borrow.Author.Rules.{rules}
 use Rattle.tokens.proofs.prop_at.Goals as goal
 
 pub returns-then-structure-value : goal.returns-then-structure-value

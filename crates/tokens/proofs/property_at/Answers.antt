@@ -1,11 +1,7 @@
-use mathlib.Core.Path.{◌≡◌, refl, sym, ◌∙◌}
-use Prim.Native.Nat.{◌-◌}
+use mathlib.Core.Path.{refl, sym, ◌∙◌}
 use native.Mathlib.Omega.{arith}
-use lib.ListN.{length}
 use Rattle.rules.proofs.Laws.Tokens.{item_ahead}
-use Rattle.tokens.specs.Properties.{property_at}
 use Rattle.tokens.proofs.Properties.{property_stop, property_nop, property_here, property_begin, property_end}
-use borrow.Author.Rules.{rules}
 use borrow.Enum.Refused.{opened}
 use Rattle.tokens.proofs.property_at.Goals as goal
 

@@ -1,12 +1,8 @@
 -- `property_at` meets its contract. The invariant: NOPs were passed, so that the next property from here on is the one from there on.
-use mathlib.Core.Path.{◌≡◌, refl, sym, ◌∙◌}
+use mathlib.Core.Path.{◌≡◌}
 use Prim.Native.Nat.{◌-◌}
-use native.Mathlib.Omega.{arith}
 use lib.ListN.{length}
-use Rattle.rules.proofs.Laws.Tokens.{item_ahead}
 use Rattle.tokens.specs.Properties.{property_at}
-use Rattle.tokens.proofs.Properties.{property_stop, property_nop, property_here, property_begin, property_end}
-use borrow.Author.Rules.{rules}
 use Rattle.tokens.proofs.property_at.Given as goal
 
 abbrev pub invariant-loop-kind : goal.invariant-loop-kind

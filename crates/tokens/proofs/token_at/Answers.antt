@@ -4,7 +4,6 @@ use native.Mathlib.Omega.{arith}
 use lib.ListN.{length}
 use borrow.Author.Tests.{le-leb, lt-leb, ne_eqb}
 use Rattle.rules.specs.Tokens.{tagged, token_at}
-use borrow.Author.Rules.{rules}
 use Rattle.tokens.proofs.token_at.Goals as goal
 
 pub returns-then-structure-lt4 : goal.returns-then-structure-lt4

@@ -1,6 +1,5 @@
 -- `host` meets its contract.
 use mathlib.Core.Path.{◌∙◌}
-use borrow.Author.Rules.{rules}
 use Rattle.cases.proofs.case.host.Goals as goal
 
 pub returns : goal.returns

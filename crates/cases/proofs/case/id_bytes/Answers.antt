@@ -1,6 +1,5 @@
 -- `id_bytes` meets its contract.
 use borrow.Author.Tests.{le-leb, lt-leb}
-use borrow.Author.Rules.{rules}
 use Rattle.cases.proofs.case.id_bytes.Goals as goal
 
 pub returns-then-n-le-MOST_IDS : goal.returns-then-n-le-MOST_IDS

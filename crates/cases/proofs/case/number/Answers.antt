@@ -1,6 +1,5 @@
 -- `number` meets its contract.
 use borrow.Author.Tests.{lt-ltb, le-ltb}
-use borrow.Author.Rules.{rules}
 use Rattle.cases.proofs.case.number.Goals as goal
 
 pub returns-then-k-lt-END : goal.returns-then-k-lt-END

@@ -1,6 +1,5 @@
 -- `part` meets its contract.
 use mathlib.Core.Path.{◌∙◌}
-use borrow.Author.Rules.{rules}
 use Rattle.cases.proofs.case.part.Goals as goal
 
 pub returns : goal.returns

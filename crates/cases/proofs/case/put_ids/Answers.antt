@@ -1,11 +1,7 @@
-use mathlib.Core.Path.{◌≡◌, refl, ◌∙◌}
-use mathlib.Core.List.{◌++◌}
-use Prim.Native.Nat.{◌-◌, ◌≤◌}
+use mathlib.Core.Path.{refl, ◌∙◌}
 use native.Mathlib.Omega.{arith}
-use lib.ListN.{length, drop, length-set}
-use Rattle.cases.specs.Case.{ids_in}
+use lib.ListN.{length-set}
 use Rattle.cases.proofs.Turns.{ids_none, ids_more, ids_all}
-use borrow.Author.Rules.{rules}
 use Rattle.cases.proofs.case.put_ids.Goals as goal
 
 pub loop-i-init : goal.loop-i-init

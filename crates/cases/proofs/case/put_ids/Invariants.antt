@@ -1,12 +1,9 @@
 -- `put_ids` meets its contract: the front holds the numbers, and the rest is what it was.
-use mathlib.Core.Path.{◌≡◌, refl, ◌∙◌}
+use mathlib.Core.Path.{◌≡◌}
 use mathlib.Core.List.{◌++◌}
 use Prim.Native.Nat.{◌-◌, ◌≤◌}
-use native.Mathlib.Omega.{arith}
-use lib.ListN.{length, drop, length-set}
+use lib.ListN.{length, drop}
 use Rattle.cases.specs.Case.{ids_in}
-use Rattle.cases.proofs.Turns.{ids_none, ids_more, ids_all}
-use borrow.Author.Rules.{rules}
 use Rattle.cases.proofs.case.put_ids.Given as goal
 
 abbrev pub invariant-loop-i : goal.invariant-loop-i

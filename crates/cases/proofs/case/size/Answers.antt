@@ -2,7 +2,6 @@
 use mathlib.Core.Path.{ap, ◌∙◌}
 use Rattle.cases.specs.Case.{id_bytes, size_of}
 use borrow.Author.Tests.{eq-eqb, ne_eqb, lt-ltb, le-ltb}
-use borrow.Author.Rules.{rules}
 use Rattle.cases.proofs.case.size.Goals as goal
 
 pub returns-then-k-eq-IDS : goal.returns-then-k-eq-IDS

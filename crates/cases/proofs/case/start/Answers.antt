@@ -1,10 +1,8 @@
-use mathlib.Core.Path.{◌≡◌, refl, ◌∙◌}
-use Prim.Native.Nat.{◌-◌, ◌≤◌}
+use mathlib.Core.Path.{refl, ◌∙◌}
 use native.Mathlib.Nat.{le_antisymm}
 use native.Mathlib.Omega.{arith}
 use Rattle.cases.specs.Case.{start_of}
 use Rattle.cases.proofs.Turns.{start_more}
-use borrow.Author.Rules.{rules}
 use Rattle.cases.proofs.case.start.Goals as goal
 
 pub loop-i-init : goal.loop-i-init

@@ -1,11 +1,7 @@
 -- `start` meets its contract: the place is where part i begins.
-use mathlib.Core.Path.{◌≡◌, refl, ◌∙◌}
+use mathlib.Core.Path.{◌≡◌}
 use Prim.Native.Nat.{◌-◌, ◌≤◌}
-use native.Mathlib.Nat.{le_antisymm}
-use native.Mathlib.Omega.{arith}
 use Rattle.cases.specs.Case.{start_of}
-use Rattle.cases.proofs.Turns.{start_more}
-use borrow.Author.Rules.{rules}
 use Rattle.cases.proofs.case.start.Given as goal
 
 abbrev pub invariant-loop-i : goal.invariant-loop-i

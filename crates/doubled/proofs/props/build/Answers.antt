@@ -1,13 +1,11 @@
 use mathlib.Core.Path.{◌≡◌, refl, ◌∙◌, subst}
-use Prim.Native.Nat.{ℕ, ◌-◌, ◌≤◌}
+use Prim.Native.Nat.{ℕ}
 use native.Mathlib.Omega.{arith}
-use lib.ListN.{length}
 use Rattle.rules.specs.Ceilings.{work_words}
 use Rattle.rules.specs.Events.{string_at}
-use Rattle.doubled.specs.Sorted.{chunk_room, taken, Inserted, Framed}
+use Rattle.doubled.specs.Sorted.{chunk_room, taken, Inserted}
 use Rattle.doubled.proofs.Doubles.{next_here, next_none}
-use Rattle.doubled.proofs.Chunks.{Filled, filled_start, filled_done, filled_none, filled_twice, filled_more, framed_same, framed_more, finds_taken, finds_free, full_at}
-use borrow.Author.Rules.{rules}
+use Rattle.doubled.proofs.Chunks.{filled_start, filled_done, filled_none, filled_twice, filled_more, framed_same, framed_more, finds_taken, finds_free, full_at}
 use Rattle.doubled.proofs.props.build.Goals as goal
 
 pub loop-n-init : goal.loop-n-init

@@ -1,14 +1,9 @@
 -- `build` meets its contract. The invariant: n of the properties are in the chunk, and judge what is left.
-use mathlib.Core.Path.{◌≡◌, refl, ◌∙◌, subst}
-use Prim.Native.Nat.{ℕ, ◌-◌, ◌≤◌}
-use native.Mathlib.Omega.{arith}
+use mathlib.Core.Path.{◌≡◌}
+use Prim.Native.Nat.{◌-◌, ◌≤◌}
 use lib.ListN.{length}
-use Rattle.rules.specs.Ceilings.{work_words}
-use Rattle.rules.specs.Events.{string_at}
-use Rattle.doubled.specs.Sorted.{chunk_room, taken, Inserted, Framed}
-use Rattle.doubled.proofs.Doubles.{next_here, next_none}
-use Rattle.doubled.proofs.Chunks.{Filled, filled_start, filled_done, filled_none, filled_twice, filled_more, framed_same, framed_more, finds_taken, finds_free, full_at}
-use borrow.Author.Rules.{rules}
+use Rattle.doubled.specs.Sorted.{chunk_room, taken, Framed}
+use Rattle.doubled.proofs.Chunks.{Filled}
 use Rattle.doubled.proofs.props.build.Given as goal
 
 abbrev pub invariant-loop-n : goal.invariant-loop-n

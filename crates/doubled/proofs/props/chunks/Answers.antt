@@ -1,15 +1,14 @@
 use mathlib.Core.List.{[]}
-use mathlib.Core.Path.{◌≡◌, refl, sym, ap, ◌∙◌}
-use Prim.Native.Nat.{ℕ, ◌+◌, ◌-◌, ◌≤◌}
+use mathlib.Core.Path.{refl, sym, ap, ◌∙◌}
+use Prim.Native.Nat.{◌+◌, ◌-◌}
 use native.Mathlib.Omega.{arith}
-use lib.ListN.{length, take}
+use lib.ListN.{take}
 use Rattle.rules.specs.Outcome.{Verdict, ◌then◌}
 use Rattle.rules.specs.Tree.{doubled_props}
-use Rattle.doubled.specs.Passes.{props_at, verdict, Inside}
-use Rattle.doubled.specs.Sorted.{chunk_room, taken, key_below, Framed}
+use Rattle.doubled.specs.Passes.{props_at, verdict}
+use Rattle.doubled.specs.Sorted.{chunk_room, taken, key_below}
 use Rattle.doubled.proofs.Doubles.{meets_here, meets_none, left_all, left_zero, left_hit, left_miss}
 use Rattle.doubled.proofs.Chunks.{framed_same, framed_then, builds_twice, builds_done, builds_full}
-use borrow.Author.Rules.{rules}
 use Rattle.doubled.proofs.props.chunks.Goals as goal
 
 pub loop-left-init : goal.loop-left-init

@@ -1,16 +1,12 @@
 -- `chunks` meets its contract. The invariant: what is left, and then what was found behind it, judges as the whole.
 use mathlib.Core.List.{[]}
-use mathlib.Core.Path.{◌≡◌, refl, sym, ap, ◌∙◌}
-use Prim.Native.Nat.{ℕ, ◌+◌, ◌-◌, ◌≤◌}
-use native.Mathlib.Omega.{arith}
+use mathlib.Core.Path.{◌≡◌}
+use Prim.Native.Nat.{ℕ, ◌≤◌}
 use lib.ListN.{length, take}
-use Rattle.rules.specs.Outcome.{Verdict, ◌then◌}
+use Rattle.rules.specs.Outcome.{◌then◌}
 use Rattle.rules.specs.Tree.{doubled_props}
 use Rattle.doubled.specs.Passes.{props_at, verdict, Inside}
-use Rattle.doubled.specs.Sorted.{chunk_room, taken, key_below, Framed}
-use Rattle.doubled.proofs.Doubles.{meets_here, meets_none, left_all, left_zero, left_hit, left_miss}
-use Rattle.doubled.proofs.Chunks.{framed_same, framed_then, builds_twice, builds_done, builds_full}
-use borrow.Author.Rules.{rules}
+use Rattle.doubled.specs.Sorted.{taken, Framed}
 use Rattle.doubled.proofs.props.chunks.Given as goal
 
 abbrev pub invariant-loop-left : goal.invariant-loop-left

@@ -1,12 +1,8 @@
-use mathlib.Core.Path.{◌≡◌, ap}
+use mathlib.Core.Path.{ap}
 use mathlib.Core.List.{[]}
-use Prim.Native.Nat.{ℕ, ◌+◌, ◌-◌, ◌≤◌}
 use native.Mathlib.Omega.{arith}
 use lib.ListN.{length}
-use Rattle.rules.specs.Octets.{Bytes}
-use Rattle.doubled.specs.Passes.{props_at}
 use Rattle.doubled.proofs.Doubles.{next_here, next_none}
-use borrow.Author.Rules.{rules}
 use Rattle.doubled.proofs.props.count.Goals as goal
 
 pub loop-next-init : goal.loop-next-init

@@ -1,13 +1,9 @@
 -- `count` meets its contract. The invariant: those that were counted, and those from here on, are all.
-use mathlib.Core.Path.{◌≡◌, ap}
-use mathlib.Core.List.{[]}
+use mathlib.Core.Path.{◌≡◌}
 use Prim.Native.Nat.{ℕ, ◌+◌, ◌-◌, ◌≤◌}
-use native.Mathlib.Omega.{arith}
 use lib.ListN.{length}
 use Rattle.rules.specs.Octets.{Bytes}
 use Rattle.doubled.specs.Passes.{props_at}
-use Rattle.doubled.proofs.Doubles.{next_here, next_none}
-use borrow.Author.Rules.{rules}
 use Rattle.doubled.proofs.props.count.Given as goal
 
 abbrev pub invariant-loop-next : goal.invariant-loop-next

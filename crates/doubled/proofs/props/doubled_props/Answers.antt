@@ -4,7 +4,6 @@ use native.Mathlib.Omega.{arith}
 use Rattle.rules.specs.Ceilings.{work_words}
 use Rattle.doubled.specs.Sorted.{taken}
 use Rattle.doubled.proofs.Chunks.{cleared_back}
-use borrow.Author.Rules.{rules}
 use Rattle.doubled.proofs.props.doubled_props.Goals as goal
 
 pub returns-then-work-lt-WORK_WORDS : goal.returns-then-work-lt-WORK_WORDS

@@ -1,14 +1,12 @@
 use mathlib.Core.Path.{◌≡◌}
-use Prim.Native.Nat.{ℕ, ◌+◌, ◌-◌, ◌≤◌}
+use Prim.Native.Nat.{◌+◌}
 use native.Mathlib.Omega.{arith}
-use lib.ListN.{length}
 use Rattle.rules.specs.Ceilings.{work_words}
 use Rattle.rules.specs.Events.{string_at}
 use Rattle.doubled.specs.Passes.{props_at}
 use Rattle.doubled.specs.Sorted.{chunk_room, key_below}
-use Rattle.doubled.proofs.Doubles.{next_here, next_none, Looked, looked_start, looked_none, looked_done, looked_hit, looked_miss}
+use Rattle.doubled.proofs.Doubles.{next_here, next_none, looked_start, looked_none, looked_done, looked_hit, looked_miss}
 use Rattle.doubled.proofs.Chunks.{finds_taken, finds_free}
-use borrow.Author.Rules.{rules}
 use Rattle.doubled.proofs.props.lookup.Goals as goal
 
 pub loop-i-init : goal.loop-i-init

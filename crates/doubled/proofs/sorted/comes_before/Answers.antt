@@ -1,10 +1,6 @@
-use mathlib.Core.Path.{◌≡◌, refl}
-use Prim.Native.Nat.{◌-◌}
+use mathlib.Core.Path.{refl}
 use native.Mathlib.Omega.{arith}
-use lib.ListN.{length, drop}
-use Rattle.rules.specs.Octets.{before}
 use Rattle.doubled.proofs.Chunks.{comes_ends, comes_less, comes_more, comes_same, comes_done}
-use borrow.Author.Rules.{rules}
 use Rattle.doubled.proofs.sorted.comes_before.Goals as goal
 
 pub loop-i-init : goal.loop-i-init

@@ -1,11 +1,8 @@
 -- `comes_before` meets its contract. The invariant: what is left is in the order that the whole is in.
-use mathlib.Core.Path.{◌≡◌, refl}
+use mathlib.Core.Path.{◌≡◌}
 use Prim.Native.Nat.{◌-◌}
-use native.Mathlib.Omega.{arith}
 use lib.ListN.{length, drop}
 use Rattle.rules.specs.Octets.{before}
-use Rattle.doubled.proofs.Chunks.{comes_ends, comes_less, comes_more, comes_same, comes_done}
-use borrow.Author.Rules.{rules}
 use Rattle.doubled.proofs.sorted.comes_before.Given as goal
 
 abbrev pub invariant-loop-i : goal.invariant-loop-i

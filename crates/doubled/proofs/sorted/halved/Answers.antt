@@ -1,11 +1,7 @@
-use mathlib.Core.Path.{◌≡◌, sym, ◌∙◌}
-use mathlib.Core.Bool.{true, false}
-use Prim.Native.Nat.{ℕ, ◌+◌, ◌-◌, ◌/◌, ◌≤◌, ◌<◌}
+use mathlib.Core.Path.{sym, ◌∙◌}
+use Prim.Native.Nat.{◌+◌, ◌-◌, ◌/◌}
 use native.Mathlib.Omega.{arith}
-use Rattle.rules.specs.Octets.{before}
-use Rattle.doubled.specs.Sorted.{key_at}
 use Rattle.doubled.proofs.Chunks.{lower_more, upper_more}
-use borrow.Author.Rules.{rules}
 use Rattle.doubled.proofs.sorted.halved.Goals as goal
 
 pub loop-low-init : goal.loop-low-init

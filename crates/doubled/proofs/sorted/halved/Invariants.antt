@@ -1,12 +1,9 @@
 -- `halved` meets its contract: those below come before the name, and those from above on do not.
-use mathlib.Core.Path.{◌≡◌, sym, ◌∙◌}
+use mathlib.Core.Path.{◌≡◌}
 use mathlib.Core.Bool.{true, false}
-use Prim.Native.Nat.{ℕ, ◌+◌, ◌-◌, ◌/◌, ◌≤◌, ◌<◌}
-use native.Mathlib.Omega.{arith}
+use Prim.Native.Nat.{ℕ, ◌-◌, ◌≤◌, ◌<◌}
 use Rattle.rules.specs.Octets.{before}
 use Rattle.doubled.specs.Sorted.{key_at}
-use Rattle.doubled.proofs.Chunks.{lower_more, upper_more}
-use borrow.Author.Rules.{rules}
 use Rattle.doubled.proofs.sorted.halved.Given as goal
 
 abbrev pub invariant-loop-low : goal.invariant-loop-low

@@ -1,9 +1,7 @@
 use mathlib.Core.Path.{◌≡◌, refl}
-use Prim.Native.Nat.{◌-◌, ◌≤◌}
 use native.Mathlib.Omega.{arith}
-use lib.ListN.{length, length-set}
-use Rattle.doubled.proofs.Chunks.{Moved, moved_start, moved_more, moved_done}
-use borrow.Author.Rules.{rules}
+use lib.ListN.{length-set}
+use Rattle.doubled.proofs.Chunks.{moved_start, moved_more, moved_done}
 use Rattle.doubled.proofs.sorted.insert.Goals as goal
 
 pub loop-i-init : goal.loop-i-init

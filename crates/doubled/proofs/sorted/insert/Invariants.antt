@@ -1,10 +1,8 @@
 -- `insert` meets its contract. The invariant: those from i on have moved up, and the others are as they were.
-use mathlib.Core.Path.{◌≡◌, refl}
-use Prim.Native.Nat.{◌-◌, ◌≤◌}
-use native.Mathlib.Omega.{arith}
-use lib.ListN.{length, length-set}
-use Rattle.doubled.proofs.Chunks.{Moved, moved_start, moved_more, moved_done}
-use borrow.Author.Rules.{rules}
+use mathlib.Core.Path.{◌≡◌}
+use Prim.Native.Nat.{◌≤◌}
+use lib.ListN.{length}
+use Rattle.doubled.proofs.Chunks.{Moved}
 use Rattle.doubled.proofs.sorted.insert.Given as goal
 
 abbrev pub invariant-loop-i : goal.invariant-loop-i

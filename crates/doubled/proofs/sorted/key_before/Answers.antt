@@ -5,7 +5,6 @@ use Prim.Native.Nat.{ℕ, ◌+◌}
 use native.Mathlib.Omega.{arith}
 use Rattle.rules.specs.Octets.{before}
 use Rattle.doubled.specs.Sorted.{chunk_start}
-use borrow.Author.Rules.{rules}
 use Rattle.doubled.proofs.sorted.key_before.Goals as goal
 
 pub overflow_cast-offset : goal.overflow_cast-offset

@@ -4,7 +4,6 @@ use Prim.Native.Nat.{◌+◌}
 use native.Mathlib.Omega.{arith}
 use Rattle.rules.specs.Octets.{same}
 use Rattle.doubled.specs.Sorted.{chunk_start}
-use borrow.Author.Rules.{rules}
 use Rattle.doubled.proofs.sorted.key_is.Goals as goal
 
 pub overflow_cast-offset : goal.overflow_cast-offset

@@ -1,10 +1,10 @@
-use mathlib.Core.Path.{◌≡◌, refl, sym, ◌∙◌}
+use mathlib.Core.Path.{refl, sym, ◌∙◌}
 use mathlib.Core.List.{◌++◌}
-use Prim.Native.Nat.{◌+◌, ◌*◌, ◌-◌, ◌≤◌}
+use Prim.Native.Nat.{◌≤◌}
 use native.Mathlib.Nat.{le_antisymm}
 use native.Mathlib.Omega.{arith}
-use lib.ListN.{length, take, get_or}
-use Rattle.rules.specs.Octets.{be64, zeros, lay}
+use lib.ListN.{take, get_or}
+use Rattle.rules.specs.Octets.{be64, zeros}
 use Rattle.rules.specs.Reservations.{entry_bytes}
 use Rattle.rules.proofs.Laws.Octets.{lay_nil, length_be64}
 use Rattle.rules.proofs.Laws.Writer.{laid_on}

@@ -1,17 +1,10 @@
 -- `write_block` meets its contract. The invariant: i reservations are laid in.
-use mathlib.Core.Path.{◌≡◌, refl, sym, ◌∙◌}
-use mathlib.Core.List.{◌++◌}
+use mathlib.Core.Path.{◌≡◌}
 use Prim.Native.Nat.{◌+◌, ◌*◌, ◌-◌, ◌≤◌}
-use native.Mathlib.Nat.{le_antisymm}
-use native.Mathlib.Omega.{arith}
-use lib.ListN.{length, take, get_or}
-use Rattle.rules.specs.Octets.{be64, zeros, lay}
+use lib.ListN.{length, take}
+use Rattle.rules.specs.Octets.{lay}
 use Rattle.rules.specs.Reservations.{entry_bytes}
-use Rattle.rules.proofs.Laws.Octets.{lay_nil, length_be64}
-use Rattle.rules.proofs.Laws.Writer.{laid_on}
 use Rattle.reservation.specs.Made.{entries_of}
-use Rattle.judge.proofs.Starts.{nowhere, entries_more, entries_length, block_bytes}
-use borrow.Author.Rules.{rules}
 use Rattle.judge.proofs.start.write_block.Given as goal
 
 abbrev pub invariant-loop-i : goal.invariant-loop-i

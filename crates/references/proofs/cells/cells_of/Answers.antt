@@ -1,14 +1,10 @@
-use mathlib.Core.Path.{◌≡◌, sym, ap, ◌∙◌}
-use Prim.Native.Nat.{ℕ, ◌-◌, ◌≤◌}
+use mathlib.Core.Path.{sym, ap, ◌∙◌}
 use native.Mathlib.Omega.{arith}
-use lib.ListN.{length}
 use Rattle.rules.specs.Octets.{Bytes, word_at}
 use Rattle.rules.specs.Blob.{block_of}
-use Rattle.rules.specs.Laws.Tabled.{props_at, count_named}
 use Rattle.tokens.proofs.Properties.{behind_inside, here_ahead}
 use Rattle.references.specs.Rows.{meaning, is_named}
-use Rattle.references.proofs.Counts.{count_at, count_first, count_end, count-value, count-on}
-use borrow.Author.Rules.{rules}
+use Rattle.references.proofs.Counts.{count_first, count_end, count-value, count-on}
 use Rattle.references.proofs.cells.cells_of.Goals as goal
 
 pub loop-len-init : goal.loop-len-init

@@ -1,15 +1,11 @@
 -- `cells_of` meets its contract. The invariant: what is asked for of the node is what is asked for from here on.
-use mathlib.Core.Path.{◌≡◌, sym, ap, ◌∙◌}
+use mathlib.Core.Path.{◌≡◌}
 use Prim.Native.Nat.{ℕ, ◌-◌, ◌≤◌}
-use native.Mathlib.Omega.{arith}
 use lib.ListN.{length}
-use Rattle.rules.specs.Octets.{Bytes, word_at}
 use Rattle.rules.specs.Blob.{block_of}
 use Rattle.rules.specs.Laws.Tabled.{props_at, count_named}
-use Rattle.tokens.proofs.Properties.{behind_inside, here_ahead}
-use Rattle.references.specs.Rows.{meaning, is_named}
-use Rattle.references.proofs.Counts.{count_at, count_first, count_end, count-value, count-on}
-use borrow.Author.Rules.{rules}
+use Rattle.references.specs.Rows.{meaning}
+use Rattle.references.proofs.Counts.{count_at}
 use Rattle.references.proofs.cells.cells_of.Given as goal
 
 abbrev pub invariant-loop-len : goal.invariant-loop-len

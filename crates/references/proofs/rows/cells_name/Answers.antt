@@ -1,5 +1,5 @@
 -- `cells_name` meets its contract: the table, cut at its NULs, is the names of the rows; any other name goes by its ending.
-use mathlib.Core.Path.{refl, sym, ◌∙◌}
+use mathlib.Core.Path.{sym, ◌∙◌}
 use mathlib.Core.Bool.{true, false}
 use Rattle.rules.specs.Octets.{ascii}
 use Rattle.rules.specs.References.{cell_rows}

@@ -4,7 +4,6 @@ use Rattle.rules.specs.Octets.{ascii, length_to, same}
 use Rattle.rules.specs.References.{cell_rows}
 use Rattle.references.specs.Rows.{asked}
 use Rattle.references.proofs.Names.{text_named, none_named}
-use borrow.Author.Rules.{rules}
 use Rattle.references.proofs.rows.is_asked.Goals as goal
 
 pub returns-then-row-ge-ROWS : goal.returns-then-row-ge-ROWS

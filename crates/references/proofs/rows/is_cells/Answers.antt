@@ -1,7 +1,6 @@
 -- `is_cells` meets its contract: what does not begin with `#` is no cells property.
 use mathlib.Core.Path.{◌≡◌, refl, sym, ◌∙◌}
 use mathlib.Core.Bool.{true}
-use borrow.Author.Tests.{not-true}
 use Rattle.rules.specs.Octets.{ascii, begins}
 use Rattle.rules.specs.References.{cell_rows}
 use Rattle.references.specs.Rows.{asked, meaning}

@@ -1,5 +1,4 @@
 -- `is_ended` meets its contract.
-use mathlib.Core.Path.{refl}
 use Rattle.rules.specs.Octets.{ascii}
 use Rattle.references.proofs.rows.is_ended.Goals as goal
 

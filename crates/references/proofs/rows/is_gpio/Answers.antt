@@ -1,5 +1,4 @@
 -- `is_gpio` meets its contract: the two endings.
-use mathlib.Core.Path.{refl}
 use Rattle.rules.specs.Octets.{ascii}
 use Rattle.rules.specs.References.{is_gpio}
 use Rattle.references.proofs.rows.is_gpio.Goals as goal

@@ -1,5 +1,4 @@
 -- `is_listed` meets its contract: the table, cut at its NULs, is the 23 names.
-use mathlib.Core.Path.{refl}
 use Rattle.rules.specs.Octets.{ascii}
 use Rattle.rules.specs.References.{reference_names}
 use Rattle.references.specs.Rows.{cut}

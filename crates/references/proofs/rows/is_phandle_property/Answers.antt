@@ -1,5 +1,4 @@
 -- `is_phandle_property` meets its contract: the names, then the endings, then the part.
-use mathlib.Core.Path.{refl}
 use Rattle.rules.specs.Octets.{ascii}
 use Rattle.rules.proofs.Laws.Tests.{and_nothing, and_none}
 use Rattle.references.proofs.Names.{in_parts}

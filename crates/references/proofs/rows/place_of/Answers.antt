@@ -1,11 +1,6 @@
-use mathlib.Core.Path.{◌≡◌}
-use Prim.Native.Nat.{◌+◌, ◌-◌, ◌≤◌}
 use native.Mathlib.Omega.{arith}
-use lib.ListN.{length, drop}
 use Rattle.rules.proofs.Laws.Given.{given_inside}
-use Rattle.references.specs.Rows.{cut, place_in}
 use Rattle.references.proofs.Names.{walk_hit, walk_on, walk_end}
-use borrow.Author.Rules.{rules}
 use Rattle.references.proofs.rows.place_of.Goals as goal
 
 pub nul-n-requires : goal.nul-n-requires

@@ -1,12 +1,8 @@
 -- `place_of` meets its contract. The invariant: the names passed, with the place among those from `at` on, are the place among all.
 use mathlib.Core.Path.{◌≡◌}
 use Prim.Native.Nat.{◌+◌, ◌-◌, ◌≤◌}
-use native.Mathlib.Omega.{arith}
 use lib.ListN.{length, drop}
-use Rattle.rules.proofs.Laws.Given.{given_inside}
 use Rattle.references.specs.Rows.{cut, place_in}
-use Rattle.references.proofs.Names.{walk_hit, walk_on, walk_end}
-use borrow.Author.Rules.{rules}
 use Rattle.references.proofs.rows.place_of.Given as goal
 
 abbrev pub invariant-loop-at : goal.invariant-loop-at

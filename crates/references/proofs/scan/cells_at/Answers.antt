@@ -4,7 +4,6 @@ use Prim.Native.Nat.{ℕ}
 use Rattle.rules.specs.Blob.{block_of}
 use Rattle.rules.specs.Laws.Tabled.{props_at, count_named}
 use Rattle.references.specs.Rows.{meaning}
-use borrow.Author.Rules.{rules}
 use Rattle.references.proofs.scan.cells_at.Goals as goal
 
 pub returns : goal.returns

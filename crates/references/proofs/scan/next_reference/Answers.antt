@@ -1,13 +1,9 @@
-use mathlib.Core.Path.{◌≡◌, refl, sym, ap, ◌∙◌}
-use Prim.Native.Nat.{◌-◌, ◌/◌, ◌≤◌}
+use mathlib.Core.Path.{refl, sym, ap, ◌∙◌}
 use native.Mathlib.Omega.{arith}
-use lib.ListN.{length}
 use Rattle.rules.specs.Laws.Tabled.{look_in}
 use Rattle.references.specs.Rows.{meaning}
 use Rattle.references.specs.Table.{found}
-use Rattle.references.specs.Scan.{scan_in}
 use Rattle.references.proofs.Scans.{scanned_odd, scanned_past, scanned_skip, scanned_here}
-use borrow.Author.Rules.{rules}
 use Rattle.rules.specs.Blob.{block_of}
 use Rattle.references.proofs.scan.next_reference.Goals as goal
 

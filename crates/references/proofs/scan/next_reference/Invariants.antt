@@ -1,14 +1,9 @@
 -- `next_reference` meets its contract. The invariant: the references from i on are those from the present word on.
-use mathlib.Core.Path.{◌≡◌, refl, sym, ap, ◌∙◌}
+use mathlib.Core.Path.{◌≡◌}
 use Prim.Native.Nat.{◌-◌, ◌/◌, ◌≤◌}
-use native.Mathlib.Omega.{arith}
 use lib.ListN.{length}
-use Rattle.rules.specs.Laws.Tabled.{look_in}
 use Rattle.references.specs.Rows.{meaning}
-use Rattle.references.specs.Table.{found}
 use Rattle.references.specs.Scan.{scan_in}
-use Rattle.references.proofs.Scans.{scanned_odd, scanned_past, scanned_skip, scanned_here}
-use borrow.Author.Rules.{rules}
 use Rattle.rules.specs.Blob.{block_of}
 use Rattle.references.proofs.scan.next_reference.Given as goal
 

@@ -1,10 +1,7 @@
-use mathlib.Core.Path.{◌≡◌, sym, ◌∙◌}
-use Prim.Native.Nat.{◌-◌, ◌≤◌}
+use mathlib.Core.Path.{sym, ◌∙◌}
 use native.Mathlib.Omega.{arith}
-use Rattle.rules.specs.Laws.Tabled.{look_in}
-use Rattle.rules.proofs.Laws.Tabled.{look_from, look_all, look_end}
+use Rattle.rules.proofs.Laws.Tabled.{look_all, look_end}
 use Rattle.references.proofs.Tables.{look_hit, look_miss}
-use borrow.Author.Rules.{rules}
 use Rattle.references.proofs.table.node_of.Goals as goal
 
 pub loop-i-init : goal.loop-i-init

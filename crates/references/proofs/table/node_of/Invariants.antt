@@ -1,11 +1,8 @@
 -- `node_of` meets its contract. The invariant: the answer is that of the search from i on.
-use mathlib.Core.Path.{◌≡◌, sym, ◌∙◌}
+use mathlib.Core.Path.{◌≡◌}
 use Prim.Native.Nat.{◌-◌, ◌≤◌}
-use native.Mathlib.Omega.{arith}
 use Rattle.rules.specs.Laws.Tabled.{look_in}
-use Rattle.rules.proofs.Laws.Tabled.{look_from, look_all, look_end}
-use Rattle.references.proofs.Tables.{look_hit, look_miss}
-use borrow.Author.Rules.{rules}
+use Rattle.rules.proofs.Laws.Tabled.{look_from}
 use Rattle.references.proofs.table.node_of.Given as goal
 
 abbrev pub invariant-loop-i : goal.invariant-loop-i

@@ -4,7 +4,6 @@ use native.Mathlib.Omega.{arith}
 use borrow.Author.Tests.{eq-eqb, ne_eqb}
 use Rattle.rules.specs.Reservations.{invalid}
 use Rattle.rules.proofs.Laws.Tests.{ltb_leb}
-use borrow.Author.Rules.{rules}
 use Rattle.reservation.proofs.Reservation.invalid.Goals as goal
 
 pub returns-then-self-eq0 : goal.returns-then-self-eq0

@@ -5,7 +5,6 @@ use native.Mathlib.Omega.{arith}
 use Rattle.rules.proofs.Laws.Tests.{ltb_cong}
 use Rattle.rules.proofs.Laws.Reservations.{meets_up, meets_down}
 use Rattle.reservation.specs.Made.{entry_of}
-use borrow.Author.Rules.{rules}
 use Rattle.reservation.proofs.Reservation.meets.Goals as goal
 
 pub returns-then-self-later : goal.returns-then-self-later

@@ -1,6 +1,5 @@
 -- `new` meets its contract.
 use Rattle.rules.specs.Reservations.{made}
-use borrow.Author.Rules.{rules}
 use Rattle.reservation.proofs.Reservation.new.Goals as goal
 
 pub returns-then-invalid : goal.returns-then-invalid

@@ -1,7 +1,6 @@
 -- `opened` meets its contract: the ceilings are far below what a number holds.
 use native.Mathlib.Omega.{arith}
 use Rattle.rules.specs.Ceilings.{open_ceiling, node_ceiling}
-use borrow.Author.Rules.{rules}
 use Rattle.shape.proofs.Walk.opened.Goals as goal
 
 pub overflow_add-result : goal.overflow_add-result
