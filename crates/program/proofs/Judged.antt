@@ -8,7 +8,7 @@ use lib.ListN.{length}
 use borrow.Author.Tests.{lt-ltb, le-ltb, ltb-false}
 use Rattle.rules.specs.Ceilings.{program_ceiling}
 use Rattle.rules.specs.Octets.{Bytes, lay}
-use Rattle.rules.specs.Outcome.{refuses, passes, ◌then◌}
+use Rattle.rules.specs.Outcome.{refuses, passes}
 use Rattle.rules.specs.References.{edition1}
 use Rattle.rules.specs.Program.{input_judged, lines_judged, lines_of, host_judged, Printed, printed, printed_refusal}
 use Rattle.rules.proofs.Laws.Verdicts.{then_passes, one, one_passes}

@@ -4,7 +4,6 @@ use Rattle.rules.proofs.Laws.Host.{block_is, wide}
 use Rattle.derive.specs.Answers.{checked}
 use Rattle.derive.proofs.Joining.{whole, accepts_not, start-asked, accepts}
 use Rattle.rules.specs.Blob.{block_of}
-use borrow.Author.Rules.{rules}
 use Rattle.derive.proofs.accepted.Goals as goal
 
 pub request-checked-requires : goal.request-checked-requires

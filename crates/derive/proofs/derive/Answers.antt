@@ -8,7 +8,6 @@ use Rattle.rules.specs.Laws.Host.{HostRead}
 use Rattle.rules.proofs.Laws.Host.{host_read, cleared, space_cleared, space_length_kept}
 use Rattle.reader.specs.Answers.{meaning}
 use Rattle.derive.proofs.Joining.{refused_answer, refused_list, refused_guest, refused_space, derived_is, derived_list, derived_guest}
-use borrow.Author.Rules.{rules}
 use Rattle.derive.proofs.derive.Goals as goal
 
 pub accepted-answer-requires : goal.accepted-answer-requires

@@ -4,7 +4,6 @@ use Rattle.rules.proofs.Laws.Host.{block_is, wide}
 use Rattle.device.specs.Answers.{checked}
 use Rattle.device.proofs.Joining.{accepts_not, start-asked, accepts}
 use Rattle.rules.specs.Blob.{block_of}
-use borrow.Author.Rules.{rules}
 use Rattle.device.proofs.accepted.Goals as goal
 
 pub lists-checked-requires : goal.lists-checked-requires

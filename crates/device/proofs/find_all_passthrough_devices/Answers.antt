@@ -8,7 +8,6 @@ use Rattle.rules.specs.Laws.Host.{HostRead}
 use Rattle.rules.proofs.Laws.Host.{host_read, cleared, space_cleared, space_length_kept}
 use Rattle.reader.specs.Answers.{meaning}
 use Rattle.device.proofs.Joining.{found_is, found_list, refused_answer, refused_list, refused_space}
-use borrow.Author.Rules.{rules}
 use Rattle.device.proofs.find_all_passthrough_devices.Goals as goal
 
 pub accepted-answer-requires : goal.accepted-answer-requires

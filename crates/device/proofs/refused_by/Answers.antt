@@ -5,7 +5,6 @@ use Rattle.rules.specs.Outcome.{refuses}
 use Rattle.rules.specs.Device.{Found}
 use Rattle.reader.specs.Answers.{refused as read, place_of}
 use Rattle.reader.proofs.Carried.{carried}
-use borrow.Author.Rules.{rules}
 use borrow.Enum.Refused.{opened}
 use Rattle.device.proofs.refused_by.Goals as goal
 

@@ -1,9 +1,6 @@
-use Prim.Native.Nat.{◌-◌}
 use native.Mathlib.Omega.{arith}
-use lib.ListN.{length}
 use Rattle.rules.proofs.Laws.Tokens.{item_ahead}
-use Rattle.guest.proofs.Filled.{Fills, fills_start, fills_near, fills_stop, fills-fits, fills-on}
-use borrow.Author.Rules.{rules}
+use Rattle.guest.proofs.Filled.{fills_start, fills_near, fills_stop, fills-fits, fills-on}
 use borrow.Enum.Refused.{opened}
 use Rattle.guest.proofs.blocks.Goals as goal
 

@@ -1,10 +1,7 @@
 -- `blocks` meets its contract. The invariant: what stands in the guest, with what the rest writes, is the copy.
 use Prim.Native.Nat.{◌-◌}
-use native.Mathlib.Omega.{arith}
 use lib.ListN.{length}
-use Rattle.rules.proofs.Laws.Tokens.{item_ahead}
-use Rattle.guest.proofs.Filled.{Fills, fills_start, fills_near, fills_stop, fills-fits, fills-on}
-use borrow.Author.Rules.{rules}
+use Rattle.guest.proofs.Filled.{Fills}
 use Rattle.guest.proofs.blocks.Given as goal
 
 abbrev pub invariant-loop-kind : goal.invariant-loop-kind

@@ -1,10 +1,7 @@
-use Prim.Native.Nat.{◌-◌}
 use native.Mathlib.Omega.{arith}
-use lib.ListN.{length}
 use Rattle.rules.proofs.Laws.Tokens.{item_ahead}
-use Rattle.guest.proofs.Counted.{Measures, measures_start, measures_low, measures_near, measures_room, measures_stop, measures_on}
+use Rattle.guest.proofs.Counted.{measures_start, measures_low, measures_near, measures_room, measures_stop, measures_on}
 use Rattle.guest.proofs.Closed.{sized_sieved}
-use borrow.Author.Rules.{rules}
 use borrow.Enum.Refused.{opened}
 use Rattle.guest.proofs.measure.Goals as goal
 

@@ -1,11 +1,7 @@
 -- `measure` meets its contract. The invariant: the sums so far, and what the rest adds, are those of the whole copy.
 use Prim.Native.Nat.{◌-◌}
-use native.Mathlib.Omega.{arith}
 use lib.ListN.{length}
-use Rattle.rules.proofs.Laws.Tokens.{item_ahead}
-use Rattle.guest.proofs.Counted.{Measures, measures_start, measures_low, measures_near, measures_room, measures_stop, measures_on}
-use Rattle.guest.proofs.Closed.{sized_sieved}
-use borrow.Author.Rules.{rules}
+use Rattle.guest.proofs.Counted.{Measures}
 use Rattle.guest.proofs.measure.Given as goal
 
 abbrev pub invariant-loop-kind : goal.invariant-loop-kind

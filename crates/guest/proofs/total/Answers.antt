@@ -1,7 +1,6 @@
 -- `total` meets its contract.
 use native.Mathlib.Omega.{arith}
 use Rattle.rules.specs.Ceilings.{blob_ceiling}
-use borrow.Author.Rules.{rules}
 use Rattle.guest.proofs.total.Goals as goal
 
 pub overflow_add-result : goal.overflow_add-result

@@ -1,7 +1,6 @@
 -- `write` meets its contract.
 use mathlib.Core.Path.{refl}
 use Rattle.guest.proofs.Closed.{guest_laid}
-use borrow.Author.Rules.{rules}
 use Rattle.guest.proofs.write.Goals as goal
 
 pub returns : goal.returns

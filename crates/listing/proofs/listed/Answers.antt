@@ -1,7 +1,6 @@
 -- `listed` meets its contract.
 use native.Mathlib.Omega.{arith}
 use Rattle.listing.proofs.Joined.{lists}
-use borrow.Author.Rules.{rules}
 use Rattle.rules.specs.Blob.{block_of}
 use Rattle.listing.proofs.listed.Goals as goal
 

@@ -1,7 +1,6 @@
 -- `reached` meets its contract: each part hands on what the next asks for.
 use native.Mathlib.Omega.{arith}
 use Rattle.listing.proofs.Joined.{start_room, clear-nodes, given-kept, given-piled, reaches}
-use borrow.Author.Rules.{rules}
 use Rattle.rules.specs.Blob.{block_of}
 use Rattle.listing.proofs.reached.Goals as goal
 

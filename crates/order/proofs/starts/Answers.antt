@@ -1,12 +1,9 @@
 use mathlib.Core.Path.{◌≡◌, refl, subst, ◌∙◌}
-use Prim.Native.Nat.{ℕ, ◌+◌, ◌-◌, ◌≤◌}
+use Prim.Native.Nat.{ℕ, ◌+◌, ◌-◌}
 use native.Mathlib.Omega.{arith}
-use lib.ListN.{length}
-use Rattle.rules.specs.Octets.{Bytes}
 use Rattle.rules.specs.Blob.{block_of}
-use Rattle.order.specs.Starts.{Asked, Placed}
+use Rattle.order.specs.Starts.{Placed}
 use Rattle.order.proofs.Turns.{placed_start, placed_done}
-use borrow.Author.Rules.{rules}
 use Rattle.order.proofs.starts.Goals as goal
 
 pub loop-i-init : goal.loop-i-init

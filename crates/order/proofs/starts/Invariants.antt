@@ -1,13 +1,10 @@
 -- `starts` meets its contract. The invariant: the start nodes of number i or more stand in order.
-use mathlib.Core.Path.{◌≡◌, refl, subst, ◌∙◌}
-use Prim.Native.Nat.{ℕ, ◌+◌, ◌-◌, ◌≤◌}
-use native.Mathlib.Omega.{arith}
+use mathlib.Core.Path.{◌≡◌}
+use Prim.Native.Nat.{◌+◌, ◌≤◌}
 use lib.ListN.{length}
 use Rattle.rules.specs.Octets.{Bytes}
 use Rattle.rules.specs.Blob.{block_of}
 use Rattle.order.specs.Starts.{Asked, Placed}
-use Rattle.order.proofs.Turns.{placed_start, placed_done}
-use borrow.Author.Rules.{rules}
 use Rattle.order.proofs.starts.Given as goal
 
 abbrev pub invariant-loop-i : goal.invariant-loop-i

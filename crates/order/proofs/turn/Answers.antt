@@ -1,10 +1,8 @@
 -- `turn` meets its contract.
 use mathlib.Core.Path.{sym, ◌∙◌}
 use native.Mathlib.Omega.{arith}
-use borrow.Author.Tests.{not-true, not-false}
 use Rattle.rules.proofs.Laws.Kept.{node_word}
 use Rattle.order.proofs.Turns.{turn_skip, formed_kept, ordered_kept, turn-take}
-use borrow.Author.Rules.{rules}
 use Rattle.rules.specs.Blob.{block_of}
 use Rattle.order.proofs.turn.Goals as goal
 

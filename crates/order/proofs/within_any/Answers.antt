@@ -1,13 +1,8 @@
-use mathlib.Core.Path.{◌≡◌, refl, sym, ◌∙◌}
-use Prim.Native.Nat.{◌-◌, ◌≤◌}
+use mathlib.Core.Path.{refl, sym, ◌∙◌}
 use native.Mathlib.Omega.{arith}
-use lib.ListN.{length, drop}
-use Rattle.rules.specs.Blob.{Block}
 use Rattle.rules.specs.Tree.{frame}
-use Rattle.rules.specs.Listing.{within}
 use Rattle.rules.specs.Laws.Tabled.{tree_in}
 use Rattle.order.proofs.Tests.{within_end, within_here, within_below, within_past}
-use borrow.Author.Rules.{rules}
 use Rattle.order.proofs.within_any.Goals as goal
 
 pub loop-k-init : goal.loop-k-init

@@ -1,14 +1,11 @@
 -- `within_any` meets its contract. The invariant: the answer is that of the nodes from k on.
-use mathlib.Core.Path.{◌≡◌, refl, sym, ◌∙◌}
+use mathlib.Core.Path.{◌≡◌}
 use Prim.Native.Nat.{◌-◌, ◌≤◌}
-use native.Mathlib.Omega.{arith}
 use lib.ListN.{length, drop}
 use Rattle.rules.specs.Blob.{Block}
 use Rattle.rules.specs.Tree.{frame}
 use Rattle.rules.specs.Listing.{within}
 use Rattle.rules.specs.Laws.Tabled.{tree_in}
-use Rattle.order.proofs.Tests.{within_end, within_here, within_below, within_past}
-use borrow.Author.Rules.{rules}
 use Rattle.order.proofs.within_any.Given as goal
 
 abbrev pub invariant-loop-k : goal.invariant-loop-k

@@ -1,16 +1,8 @@
-use mathlib.Core.Path.{◌≡◌, refl, ap, ◌∙◌}
-use mathlib.Core.List.{List}
-use Prim.Native.Nat.{ℕ, ◌-◌, ◌≤◌}
+use mathlib.Core.Path.{refl, ap, ◌∙◌}
 use native.Mathlib.Omega.{arith}
 use lib.ListN.{length}
-use Rattle.rules.specs.Laws.Kept.{Kept}
-use Rattle.rules.specs.Laws.Tabled.{tree_in}
-use Rattle.picks.specs.Marks.{Noted}
-use Rattle.picks.specs.Turns.{Coded}
 use Rattle.picks.proofs.Coding.{coded_first, coded_more, coded_end, turned_length}
-use borrow.Author.Rules.{rules}
 use Rattle.rules.specs.Blob.{block_of}
-use Rattle.rules.specs.Space.{list_in}
 use Rattle.picks.proofs.each.Goals as goal
 
 pub loop-i-init : goal.loop-i-init

@@ -1,15 +1,12 @@
 -- `each` meets its contract. The invariant: the first i nodes have had their turn.
-use mathlib.Core.Path.{◌≡◌, refl, ap, ◌∙◌}
+use mathlib.Core.Path.{◌≡◌}
 use mathlib.Core.List.{List}
 use Prim.Native.Nat.{ℕ, ◌-◌, ◌≤◌}
-use native.Mathlib.Omega.{arith}
 use lib.ListN.{length}
 use Rattle.rules.specs.Laws.Kept.{Kept}
 use Rattle.rules.specs.Laws.Tabled.{tree_in}
 use Rattle.picks.specs.Marks.{Noted}
 use Rattle.picks.specs.Turns.{Coded}
-use Rattle.picks.proofs.Coding.{coded_first, coded_more, coded_end, turned_length}
-use borrow.Author.Rules.{rules}
 use Rattle.rules.specs.Blob.{block_of}
 use Rattle.rules.specs.Space.{list_in}
 use Rattle.picks.proofs.each.Given as goal

@@ -5,7 +5,6 @@ use Rattle.rules.specs.Blob.{Block}
 use Rattle.reader.specs.declared.Answer.TheVariants.{Refused}
 use Rattle.reader.specs.Whole.{Judged}
 use Rattle.reader.proofs.Joined.{structure_end, strings_end, block_is, part_short, tabled, paired, shape_refused}
-use borrow.Author.Rules.{rules}
 use Rattle.reader.proofs.blocks.Goals as goal
 
 pub overflow_add-end : goal.overflow_add-end

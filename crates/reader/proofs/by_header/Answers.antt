@@ -1,7 +1,6 @@
 -- `by_header` meets its contract: a refusal keeps its number.
 use mathlib.Core.Path.{sym, ap}
 use Rattle.header.specs.Header.{refused as headed}
-use borrow.Author.Rules.{rules}
 use Rattle.reader.proofs.by_header.Goals as goal
 
 pub returns-in-Short : goal.returns-in-Short

@@ -2,7 +2,6 @@
 use mathlib.Core.Path.{sym, ap}
 use Prim.Native.Nat.{ℕ}
 use Rattle.shape.specs.Answers.{refused as shaped}
-use borrow.Author.Rules.{rules}
 use Rattle.reader.proofs.by_shape.Goals as goal
 
 pub returns-in-Shape : goal.returns-in-Shape

@@ -5,7 +5,6 @@ use Rattle.rules.specs.Ceilings.{work_words}
 use Rattle.reader.specs.Answers.{meaning}
 use Rattle.header.specs.Header.{Heads}
 use Rattle.reader.proofs.Joined.{no_space, clear_long, clear_again, head_refused, read_answer, read_refused, read_nodes}
-use borrow.Author.Rules.{rules}
 use Rattle.reader.proofs.read.Goals as goal
 
 pub returns-then-work-lt-WORK_WORDS : goal.returns-then-work-lt-WORK_WORDS

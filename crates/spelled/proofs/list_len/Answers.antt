@@ -1,10 +1,9 @@
 use mathlib.Core.List.{[]}
 use mathlib.Core.Path.{◌≡◌, sym, ap, ◌∙◌}
-use Prim.Native.Nat.{ℕ, ◌+◌, ◌-◌, ◌*◌, ◌≤◌}
+use Prim.Native.Nat.{ℕ}
 use native.Mathlib.Omega.{arith}
 use lib.ListN.{length}
-use Rattle.rules.specs.Octets.{Bytes}
-use Rattle.rules.proofs.Laws.Kept.{node_word, word_in_part, longest}
+use Rattle.rules.proofs.Laws.Kept.{node_word, word_in_part}
 use Rattle.rules.specs.Laws.Tabled.{tree_of}
 use Rattle.rules.proofs.Laws.Constants.{list_at_lem}
 use Rattle.spelled.specs.Lists.{list_bytes}

@@ -1,11 +1,11 @@
 use mathlib.Core.List.{[]}
 use mathlib.Core.Path.{◌≡◌, refl, sym, ap, ◌∙◌}
-use Prim.Native.Nat.{ℕ, ◌+◌, ◌-◌, ◌*◌, ◌≤◌}
+use Prim.Native.Nat.{ℕ}
 use native.Mathlib.Omega.{arith}
 use lib.ListN.{length}
-use Rattle.rules.specs.Octets.{Bytes, lay}
+use Rattle.rules.specs.Octets.{lay}
 use Rattle.rules.proofs.Laws.Octets.{lay_nil, length_lay}
-use Rattle.rules.proofs.Laws.Kept.{node_word, word_in_part, longest}
+use Rattle.rules.proofs.Laws.Kept.{node_word, word_in_part}
 use Rattle.rules.specs.Laws.Tabled.{tree_of}
 use Rattle.rules.proofs.Laws.Constants.{list_at_lem}
 use Rattle.spelled.specs.Lists.{list_bytes}

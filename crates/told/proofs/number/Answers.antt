@@ -1,7 +1,6 @@
 -- `number` meets its contract: the number that the reader tells is the one that the derivation's refusal carries.
 use mathlib.Core.Path.{sym, ap, ◌∙◌}
 use Rattle.derive.specs.Answers.{number_of}
-use borrow.Author.Rules.{rules}
 use Rattle.told.proofs.number.Goals as goal
 
 pub returns-in-Reader : goal.returns-in-Reader

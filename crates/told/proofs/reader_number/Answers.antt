@@ -1,7 +1,6 @@
 -- `reader_number` meets its contract: 40 is not carried.
 use mathlib.Core.Path.{sym, ◌∙◌}
 use borrow.Author.Tests.{eq-eqb, ne_eqb}
-use borrow.Author.Rules.{rules}
 use Rattle.reader.specs.Answers.{number_of}
 use Rattle.told.proofs.reader_number.Goals as goal
 

@@ -1,11 +1,9 @@
 -- `cpu_child` meets its contract.
 use mathlib.Core.Path.{sym, ap, ◌∙◌}
-use borrow.Author.Tests.{not-true, not-false}
 use Rattle.rules.specs.Octets.{Bytes, ascii, same, begins}
 use Rattle.rules.specs.Tree.{frame}
 use Rattle.rules.specs.Laws.Tabled.{tree_of}
 use Rattle.cpus.proofs.Searches.{child_elsewhere, child_plain, child_begins}
-use borrow.Author.Rules.{rules}
 use Rattle.cpus.proofs.children.cpu_child.Goals as goal
 
 pub returns-then-not-is_cpus : goal.returns-then-not-is_cpus

@@ -4,7 +4,6 @@ use Rattle.rules.specs.Octets.{Bytes, ascii, same}
 use Rattle.rules.specs.Tree.{frame}
 use Rattle.rules.specs.Laws.Tabled.{tree_of}
 use Rattle.cpus.proofs.Searches.{cpus_root, cpus_deep, cpus_named}
-use borrow.Author.Rules.{rules}
 use Rattle.cpus.proofs.children.is_cpus.Goals as goal
 
 pub returns-then-i-eq0 : goal.returns-then-i-eq0

@@ -1,10 +1,6 @@
-use mathlib.Core.Path.{◌≡◌, sym, ◌∙◌}
-use Prim.Native.Nat.{◌-◌}
+use mathlib.Core.Path.{sym, ◌∙◌}
 use native.Mathlib.Omega.{arith}
-use lib.ListN.{length, drop}
-use Rattle.rules.specs.Lists.{one_of}
 use Rattle.rules.proofs.Laws.Lists.{one_of_here, one_of_past, one_of_end}
-use borrow.Author.Rules.{rules}
 use Rattle.cpus.proofs.children.is_id.Goals as goal
 
 pub returns-then-n-ids : goal.returns-then-n-ids

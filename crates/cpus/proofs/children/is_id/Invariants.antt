@@ -1,11 +1,8 @@
 -- `is_id` meets its contract. The invariant: it is one of all exactly if it is one of the rest.
-use mathlib.Core.Path.{◌≡◌, sym, ◌∙◌}
+use mathlib.Core.Path.{◌≡◌}
 use Prim.Native.Nat.{◌-◌}
-use native.Mathlib.Omega.{arith}
 use lib.ListN.{length, drop}
 use Rattle.rules.specs.Lists.{one_of}
-use Rattle.rules.proofs.Laws.Lists.{one_of_here, one_of_past, one_of_end}
-use borrow.Author.Rules.{rules}
 use Rattle.cpus.proofs.children.is_id.Given as goal
 
 abbrev pub invariant-loop-k : goal.invariant-loop-k

@@ -3,14 +3,12 @@ use mathlib.Core.Path.{refl, sym, ap, ◌∙◌}
 use mathlib.Core.Bool.{not}
 use mathlib.Core.Option.{Option, some, none}
 use Prim.Native.Nat.{ℕ}
-use borrow.Author.Tests.{not-true, not-false}
 use Rattle.rules.specs.Tree.{node, frame}
 use Rattle.rules.specs.Copy.{cpu_child, reg_of, is_id}
 use Rattle.cpus.specs.Registers.{meaning}
 use Rattle.cpus.proofs.Searches.{no_child, the_child}
 use Rattle.rules.specs.Copy.{stranger}
 use Rattle.rules.specs.Laws.Tabled.{tree_of}
-use borrow.Author.Rules.{rules}
 use Rattle.cpus.proofs.children.stranger.Goals as goal
 
 pub returns-then-not-cpu_child : goal.returns-then-not-cpu_child

@@ -1,12 +1,7 @@
-use mathlib.Core.Path.{◌≡◌, sym, ◌∙◌}
-use Prim.Native.Nat.{◌-◌, ◌≤◌}
+use mathlib.Core.Path.{sym, ◌∙◌}
 use native.Mathlib.Omega.{arith}
 use native.Mathlib.Nat.{sub-zero}
-use Rattle.rules.specs.Tree.{numbers_from}
-use Rattle.rules.specs.Derivation.{cpus_from}
-use Rattle.rules.specs.Laws.Tabled.{tree_of}
 use Rattle.cpus.proofs.Searches.{cpus_stop, cpus_on, cpus_last}
-use borrow.Author.Rules.{rules}
 use Rattle.cpus.proofs.judged.cpus_judged.Goals as goal
 
 pub loop-i-init : goal.loop-i-init

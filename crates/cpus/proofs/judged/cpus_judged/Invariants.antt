@@ -1,13 +1,9 @@
 -- `cpus_judged` meets its contract. The invariant: the nodes from here on, judged, are all of them judged.
-use mathlib.Core.Path.{◌≡◌, sym, ◌∙◌}
+use mathlib.Core.Path.{◌≡◌}
 use Prim.Native.Nat.{◌-◌, ◌≤◌}
-use native.Mathlib.Omega.{arith}
-use native.Mathlib.Nat.{sub-zero}
 use Rattle.rules.specs.Tree.{numbers_from}
 use Rattle.rules.specs.Derivation.{cpus_from}
 use Rattle.rules.specs.Laws.Tabled.{tree_of}
-use Rattle.cpus.proofs.Searches.{cpus_stop, cpus_on, cpus_last}
-use borrow.Author.Rules.{rules}
 use Rattle.cpus.proofs.judged.cpus_judged.Given as goal
 
 abbrev pub invariant-loop-i : goal.invariant-loop-i

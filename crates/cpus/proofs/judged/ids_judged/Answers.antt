@@ -1,12 +1,7 @@
-use mathlib.Core.Path.{◌≡◌, sym, ◌∙◌}
-use Prim.Native.Nat.{◌-◌}
+use mathlib.Core.Path.{sym, ◌∙◌}
 use native.Mathlib.Omega.{arith}
-use lib.ListN.{length, drop}
-use borrow.Author.Tests.{not-true, not-false}
-use Rattle.rules.specs.Derivation.{ids_from}
 use Rattle.rules.specs.Laws.Tabled.{tree_of}
 use Rattle.cpus.proofs.Searches.{ids_unmet, ids_met, ids_end}
-use borrow.Author.Rules.{rules}
 use Rattle.cpus.proofs.judged.ids_judged.Goals as goal
 
 pub returns-then-not-met : goal.returns-then-not-met

@@ -1,13 +1,9 @@
 -- `ids_judged` meets its contract. The invariant: the rest of the ids, judged, are all of them judged.
-use mathlib.Core.Path.{◌≡◌, sym, ◌∙◌}
+use mathlib.Core.Path.{◌≡◌}
 use Prim.Native.Nat.{◌-◌}
-use native.Mathlib.Omega.{arith}
 use lib.ListN.{length, drop}
-use borrow.Author.Tests.{not-true, not-false}
 use Rattle.rules.specs.Derivation.{ids_from}
 use Rattle.rules.specs.Laws.Tabled.{tree_of}
-use Rattle.cpus.proofs.Searches.{ids_unmet, ids_met, ids_end}
-use borrow.Author.Rules.{rules}
 use Rattle.cpus.proofs.judged.ids_judged.Given as goal
 
 abbrev pub invariant-loop-k : goal.invariant-loop-k

@@ -2,13 +2,11 @@
 use mathlib.Core.Path.{refl, sym, ap, ◌∙◌}
 use mathlib.Core.List.{[], ◌∷◌}
 use mathlib.Core.Option.{some, none}
-use borrow.Author.Tests.{not-true, not-false}
 use Rattle.rules.specs.Tree.{node, frame}
 use Rattle.rules.specs.Copy.{cpu_child, reg_of, is_id}
 use Rattle.rules.specs.Laws.Tabled.{tree_of}
 use Rattle.cpus.specs.Registers.{meaning}
 use Rattle.cpus.proofs.Searches.{no_child, the_child, one_only}
-use borrow.Author.Rules.{rules}
 use Rattle.cpus.proofs.judged.meets.Goals as goal
 
 pub returns-then-not-cpu_child : goal.returns-then-not-cpu_child

@@ -1,10 +1,6 @@
-use mathlib.Core.Path.{◌≡◌, sym, ◌∙◌}
-use Prim.Native.Nat.{◌-◌}
+use mathlib.Core.Path.{sym, ◌∙◌}
 use native.Mathlib.Omega.{arith}
-use Rattle.rules.specs.Derivation.{met}
-use Rattle.rules.specs.Laws.Tabled.{tree_of}
-use Rattle.cpus.proofs.Searches.{met_from, met_first, met_stop, met_on, met_last}
-use borrow.Author.Rules.{rules}
+use Rattle.cpus.proofs.Searches.{met_first, met_stop, met_on, met_last}
 use Rattle.cpus.proofs.judged.met.Goals as goal
 
 pub loop-i-init : goal.loop-i-init

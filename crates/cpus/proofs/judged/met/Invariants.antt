@@ -1,11 +1,9 @@
 -- `met` meets its contract. The invariant: the id meets one of all exactly if it meets one of the rest.
-use mathlib.Core.Path.{◌≡◌, sym, ◌∙◌}
+use mathlib.Core.Path.{◌≡◌}
 use Prim.Native.Nat.{◌-◌}
-use native.Mathlib.Omega.{arith}
 use Rattle.rules.specs.Derivation.{met}
 use Rattle.rules.specs.Laws.Tabled.{tree_of}
-use Rattle.cpus.proofs.Searches.{met_from, met_first, met_stop, met_on, met_last}
-use borrow.Author.Rules.{rules}
+use Rattle.cpus.proofs.Searches.{met_from}
 use Rattle.cpus.proofs.judged.met.Given as goal
 
 abbrev pub invariant-loop-i : goal.invariant-loop-i

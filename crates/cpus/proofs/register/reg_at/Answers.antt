@@ -6,7 +6,6 @@ use Rattle.rules.specs.Blob.{block_of}
 use Rattle.rules.specs.Laws.Tabled.{props_at}
 use Rattle.cpus.specs.Registers.{meaning, reg_in}
 use Rattle.cpus.proofs.Registers.{reg_past, reg_row}
-use borrow.Author.Rules.{rules}
 use Rattle.cpus.proofs.register.reg_at.Goals as goal
 
 pub returns-then-count-i : goal.returns-then-count-i

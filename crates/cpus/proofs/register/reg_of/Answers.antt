@@ -1,14 +1,10 @@
-use mathlib.Core.Path.{◌≡◌, sym, ap, ◌∙◌}
-use Prim.Native.Nat.{ℕ, ◌-◌, ◌≤◌}
+use mathlib.Core.Path.{sym, ap, ◌∙◌}
 use native.Mathlib.Omega.{arith}
-use lib.ListN.{length}
 use Rattle.rules.specs.Octets.{ascii, same}
 use Rattle.rules.specs.Blob.{block_of}
-use Rattle.rules.specs.Laws.Tabled.{props_at}
 use Rattle.tokens.proofs.Properties.{behind_inside, here_ahead}
-use Rattle.cpus.specs.Registers.{meaning, register_in, reg_in}
-use Rattle.cpus.proofs.Registers.{reg_at, reg_first, reg_end, reg-value, reg-on}
-use borrow.Author.Rules.{rules}
+use Rattle.cpus.specs.Registers.{meaning, register_in}
+use Rattle.cpus.proofs.Registers.{reg_first, reg_end, reg-value, reg-on}
 use Rattle.cpus.proofs.register.reg_of.Goals as goal
 
 pub loop-len-init : goal.loop-len-init

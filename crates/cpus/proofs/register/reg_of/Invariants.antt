@@ -1,15 +1,11 @@
 -- `reg_of` meets its contract. The invariant: what `reg` of the node says is what it says from here on.
-use mathlib.Core.Path.{◌≡◌, sym, ap, ◌∙◌}
+use mathlib.Core.Path.{◌≡◌}
 use Prim.Native.Nat.{ℕ, ◌-◌, ◌≤◌}
-use native.Mathlib.Omega.{arith}
 use lib.ListN.{length}
-use Rattle.rules.specs.Octets.{ascii, same}
 use Rattle.rules.specs.Blob.{block_of}
 use Rattle.rules.specs.Laws.Tabled.{props_at}
-use Rattle.tokens.proofs.Properties.{behind_inside, here_ahead}
-use Rattle.cpus.specs.Registers.{meaning, register_in, reg_in}
-use Rattle.cpus.proofs.Registers.{reg_at, reg_first, reg_end, reg-value, reg-on}
-use borrow.Author.Rules.{rules}
+use Rattle.cpus.specs.Registers.{reg_in}
+use Rattle.cpus.proofs.Registers.{reg_at}
 use Rattle.cpus.proofs.register.reg_of.Given as goal
 
 abbrev pub invariant-loop-len : goal.invariant-loop-len

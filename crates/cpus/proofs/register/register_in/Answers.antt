@@ -2,7 +2,6 @@
 use mathlib.Core.Path.{ap, ◌∙◌}
 use Rattle.cpus.specs.declared.register.Register.TheVariants.{Number}
 use Rattle.cpus.proofs.Registers.{in_four, in_eight, in_other}
-use borrow.Author.Rules.{rules}
 use Rattle.cpus.proofs.register.register_in.Goals as goal
 
 pub returns-then-value-eq4 : goal.returns-then-value-eq4

@@ -2,7 +2,6 @@
 use mathlib.Core.Path.{sym, ap, ◌∙◌}
 use Rattle.cpus.specs.Answers.{refused_by}
 use Rattle.derive.proofs.Checks.{no_ids, bad_cpu, bad_id, good_ids}
-use borrow.Author.Rules.{rules}
 use Rattle.rules.specs.Laws.Tabled.{tree_of}
 use Rattle.derive.proofs.judged.cpus_checked.Goals as goal
 

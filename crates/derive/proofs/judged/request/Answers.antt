@@ -10,7 +10,6 @@ use Rattle.asked.specs.Answers.{meaning as ameaning}
 use Rattle.derive.specs.Answers.{checked}
 use Rattle.asked.proofs.Judged.{checks_lists, checks-named, checks-whole}
 use Rattle.derive.proofs.Checks.{request_so, behind_so}
-use borrow.Author.Rules.{rules}
 use Rattle.derive.proofs.judged.request.Goals as goal
 
 pub returns-in-Refused : goal.returns-in-Refused

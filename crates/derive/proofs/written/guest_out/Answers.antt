@@ -1,7 +1,6 @@
 -- `guest_out` meets its contract: the guest is written where both are granted, and else nothing is done.
 use mathlib.Core.Path.{refl}
 use Rattle.rules.proofs.Laws.Tests.{never}
-use borrow.Author.Rules.{rules}
 use Rattle.derive.proofs.written.guest_out.Goals as goal
 
 pub write-requires : goal.write-requires

@@ -3,7 +3,6 @@ use mathlib.Core.Path.{refl}
 use native.Mathlib.Omega.{arith}
 use lib.ListN.{length}
 use Rattle.derive.proofs.Writing.{no_list, no_guest, both_granted, granted_guest, ready, ready_first, rest_is, writes_45, writes-46, guest-room, writes-both}
-use borrow.Author.Rules.{rules}
 use Rattle.rules.specs.Blob.{block_of}
 use Rattle.derive.proofs.written.written.Goals as goal
 

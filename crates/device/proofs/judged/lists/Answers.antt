@@ -11,7 +11,6 @@ use Rattle.given.specs.Answers.{meaning as gmeaning}
 use Rattle.asked.specs.Answers.{meaning as ameaning}
 use Rattle.asked.proofs.Judged.{checks_lists, checks-named, checks-whole}
 use Rattle.device.proofs.Checks.{wanted_so}
-use borrow.Author.Rules.{rules}
 use Rattle.device.proofs.judged.lists.Goals as goal
 
 pub returns-in-Refused : goal.returns-in-Refused

@@ -1,6 +1,5 @@
 -- `close` meets its contract: END, the reservations and the header are laid around the blocks.
 use Rattle.guest.proofs.Closed.{closed_blob, closed_words}
-use borrow.Author.Rules.{rules}
 use Rattle.guest.proofs.laid.close.Goals as goal
 
 pub returns : goal.returns

@@ -1,12 +1,10 @@
 -- `lay` meets its contract: a case for each kind.
 use mathlib.Core.Path.{sym, ◌∙◌}
 use native.Mathlib.Omega.{arith}
-use borrow.Author.Tests.{not-true, not-false}
 use Rattle.rules.specs.Ceilings.{blob_ceiling}
 use Rattle.rules.specs.Blob.{block_of}
 use Rattle.guest.specs.Walked.{marked}
 use Rattle.guest.proofs.Filled.{lay_none, lay_nop, lay_begin, lay_end, prop_fits, lay_prop}
-use borrow.Author.Rules.{rules}
 use Rattle.guest.proofs.laid.lay.Goals as goal
 
 pub returns-then-not-copies : goal.returns-then-not-copies

@@ -4,7 +4,6 @@ use native.Mathlib.Omega.{arith}
 use Rattle.rules.specs.Octets.{Bytes}
 use Rattle.rules.specs.Writer.{name_offset}
 use Rattle.guest.proofs.Regions.{property_known, property_new}
-use borrow.Author.Rules.{rules}
 use Rattle.guest.proofs.laid.property.Goals as goal
 
 pub returns-then-offset-used : goal.returns-then-offset-used

@@ -3,7 +3,6 @@ use native.Mathlib.Omega.{arith}
 use Rattle.rules.proofs.Laws.Kept.{put_in_part}
 use Rattle.rules.proofs.Laws.Constants.{work_words_lem, stack_at_lem}
 use Rattle.guest.proofs.Noted.{enter_room, enter_full, space}
-use borrow.Author.Rules.{rules}
 use Rattle.guest.proofs.measured.enter.Goals as goal
 
 pub returns-then-names-lt-TABLE_ROOM : goal.returns-then-names-lt-TABLE_ROOM

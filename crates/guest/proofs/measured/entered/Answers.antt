@@ -5,7 +5,6 @@ use lib.ListN.{take}
 use Rattle.rules.specs.Ceilings.{blob_ceiling}
 use Rattle.guest.specs.Measured.{names_in}
 use Rattle.guest.proofs.Noted.{entered_known, entered_new, nul_small}
-use borrow.Author.Rules.{rules}
 use Rattle.guest.proofs.measured.entered.Goals as goal
 
 pub known-requires : goal.known-requires

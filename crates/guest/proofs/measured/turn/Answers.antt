@@ -4,12 +4,10 @@ use mathlib.Core.Bool.{true, false}
 use Prim.Native.Nat.{◌+◌}
 use native.Mathlib.Omega.{arith}
 use lib.ListN.{take}
-use borrow.Author.Tests.{not-true, not-false}
 use Rattle.rules.specs.Ceilings.{blob_ceiling}
 use Rattle.guest.specs.Walked.{marked, copies}
 use Rattle.guest.specs.Measured.{names_in}
 use Rattle.guest.proofs.Noted.{entered_none, entered_behind, entered_before, not_copied}
-use borrow.Author.Rules.{rules}
 use Rattle.guest.proofs.measured.turn.Goals as goal
 
 pub returns-then-not-copies : goal.returns-then-not-copies

@@ -1,7 +1,6 @@
 -- `within` meets its contract: past the end a name is empty.
 use native.Mathlib.Omega.{arith}
 use Rattle.guest.proofs.Noted.{string_past}
-use borrow.Author.Rules.{rules}
 use Rattle.guest.proofs.measured.within.Goals as goal
 
 pub returns : goal.returns

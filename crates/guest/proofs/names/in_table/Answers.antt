@@ -1,12 +1,10 @@
-use mathlib.Core.Path.{◌≡◌, refl, sym, ◌∙◌}
-use Prim.Native.Nat.{◌-◌, ◌≤◌}
+use mathlib.Core.Path.{refl, sym, ◌∙◌}
+use Prim.Native.Nat.{◌-◌}
 use native.Mathlib.Omega.{arith}
 use Rattle.rules.proofs.Laws.Kept.{word_in_part}
 use Rattle.rules.specs.Events.{string_at}
 use Rattle.rules.proofs.Laws.Constants.{work_words_lem, stack_at_lem}
-use Rattle.guest.specs.Measured.{in_table, table_room}
 use Rattle.guest.proofs.Noted.{table_none, table_hit, table_miss, space}
-use borrow.Author.Rules.{rules}
 use Rattle.guest.proofs.names.in_table.Goals as goal
 
 pub loop-i-init : goal.loop-i-init

@@ -1,5 +1,4 @@
 -- `is_named` meets its contract.
-use borrow.Author.Rules.{rules}
 use Rattle.guest.proofs.names.is_named.Goals as goal
 
 pub returns-in-At : goal.returns-in-At

@@ -7,7 +7,6 @@ use Rattle.rules.specs.Events.{string_at}
 use Rattle.rules.proofs.Laws.Constants.{work_words_lem, stack_at_lem}
 use Rattle.guest.specs.Measured.{is_in, names_in}
 use Rattle.guest.proofs.Noted.{known_table, known_not, space}
-use borrow.Author.Rules.{rules}
 use Rattle.guest.proofs.names.known.Goals as goal
 
 pub in_table-requires : goal.in_table-requires

@@ -1,7 +1,5 @@
 -- `left_behind` meets its contract.
-use Prim.Native.Nat.{◌-◌}
 use native.Mathlib.Omega.{arith}
-use borrow.Author.Rules.{rules}
 use Rattle.guest.proofs.names.left_behind.Goals as goal
 
 pub returns-then-left-eq0 : goal.returns-then-left-eq0

@@ -1,10 +1,8 @@
 -- `same_name` meets its contract: the same offset has the same name.
 use mathlib.Core.Path.{sym, ap}
 use Prim.Native.Nat.{ℕ}
-use Rattle.rules.specs.Octets.{same}
 use Rattle.rules.specs.Events.{string_at}
 use Rattle.rules.proofs.Laws.Octets.{eq_same}
-use borrow.Author.Rules.{rules}
 use Rattle.guest.proofs.names.same_name.Goals as goal
 
 pub returns-then-a-b : goal.returns-then-a-b

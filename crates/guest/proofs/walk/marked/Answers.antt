@@ -3,7 +3,6 @@ use native.Mathlib.Omega.{arith}
 use Rattle.rules.proofs.Laws.Kept.{word_in_part}
 use Rattle.rules.proofs.Laws.Constants.{node_ceiling_lem, marks_at_lem}
 use Rattle.guest.proofs.Marks.{mark_here, mark_past}
-use borrow.Author.Rules.{rules}
 use Rattle.guest.proofs.walk.marked.Goals as goal
 
 pub returns-then-i-ge-NODE_CEILING : goal.returns-then-i-ge-NODE_CEILING

@@ -3,7 +3,6 @@ use native.Mathlib.Omega.{arith}
 use Rattle.rules.specs.Ceilings.{blob_ceiling}
 use Rattle.guest.specs.Walked.{marked}
 use Rattle.guest.proofs.Marks.{onward_copied, onward_left, onward_end}
-use borrow.Author.Rules.{rules}
 use Rattle.guest.proofs.walk.onward.Goals as goal
 
 pub overflow_add-result : goal.overflow_add-result

@@ -1,6 +1,5 @@
 -- `property_of` meets its contract: a case for each kind.
 use borrow.Author.Tests.{eq-eqb, ne_eqb}
-use borrow.Author.Rules.{rules}
 use Rattle.guest.proofs.walk.property_of.Goals as goal
 
 pub returns-then-skipped-eq0 : goal.returns-then-skipped-eq0

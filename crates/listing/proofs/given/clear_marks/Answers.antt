@@ -5,7 +5,6 @@ use Rattle.rules.specs.Octets.{lay, zeros}
 use Rattle.rules.specs.Space.{marks_at}
 use Rattle.rules.proofs.Laws.Constants.{marks_at_lem}
 use Rattle.listing.proofs.Gained.{cleared}
-use borrow.Author.Rules.{rules}
 use Rattle.listing.proofs.given.clear_marks.Goals as goal
 
 pub returns : goal.returns

@@ -7,7 +7,6 @@ use lib.ListN.{get_or}
 use Rattle.rules.proofs.Laws.Kept.{node_word}
 use Rattle.rules.proofs.Laws.Constants.{marks_at_lem}
 use Rattle.listing.proofs.Notes.{known, unknown, gains_new, gains_known}
-use borrow.Author.Rules.{rules}
 use Rattle.listing.proofs.given.list.Goals as goal
 
 pub overflow_add-x : goal.overflow_add-x

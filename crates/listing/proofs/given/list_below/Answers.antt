@@ -1,15 +1,13 @@
 use mathlib.Core.List.{[]}
 use mathlib.Core.Path.{ap, ◌∙◌}
-use Prim.Native.Nat.{ℕ, ◌+◌, ◌-◌}
+use Prim.Native.Nat.{ℕ, ◌+◌}
 use native.Mathlib.Omega.{arith}
 use lib.ListN.{get_or}
 use Rattle.rules.specs.Blob.{Block}
 use Rattle.rules.proofs.Laws.Kept.{node_word}
 use Rattle.rules.proofs.Laws.Constants.{stack_at_lem}
-use Rattle.listing.specs.State.{Gains}
 use Rattle.listing.specs.Given.{below_in}
-use Rattle.listing.proofs.Gained.{below_from, gains_refl, start_below, below_turn, below_all}
-use borrow.Author.Rules.{rules}
+use Rattle.listing.proofs.Gained.{gains_refl, start_below, below_turn, below_all}
 use Rattle.listing.proofs.given.list_below.Goals as goal
 
 nil : Block

@@ -1,17 +1,10 @@
 -- `list_below` meets its contract. The invariant: what the start nodes below p are to bring is there, but for what those from here
 -- on bring.
-use mathlib.Core.List.{[]}
-use mathlib.Core.Path.{ap, ◌∙◌}
-use Prim.Native.Nat.{ℕ, ◌+◌, ◌-◌}
-use native.Mathlib.Omega.{arith}
-use lib.ListN.{get_or}
+use Prim.Native.Nat.{◌-◌}
 use Rattle.rules.specs.Blob.{Block}
-use Rattle.rules.proofs.Laws.Kept.{node_word}
-use Rattle.rules.proofs.Laws.Constants.{stack_at_lem}
 use Rattle.listing.specs.State.{Gains}
 use Rattle.listing.specs.Given.{below_in}
-use Rattle.listing.proofs.Gained.{below_from, gains_refl, start_below, below_turn, below_all}
-use borrow.Author.Rules.{rules}
+use Rattle.listing.proofs.Gained.{below_from}
 use Rattle.listing.proofs.given.list_below.Given as goal
 
 abbrev pub invariant-loop-k : goal.invariant-loop-k

@@ -1,12 +1,10 @@
 use mathlib.Core.List.{[]}
-use Prim.Native.Nat.{◌-◌}
 use native.Mathlib.Omega.{arith}
-use lib.ListN.{length, get_or, drop}
+use lib.ListN.{get_or}
 use Rattle.rules.specs.Blob.{Block}
 use Rattle.rules.proofs.Laws.Lists.{mem_at}
-use Rattle.listing.specs.Given.{with_below, Gathers}
+use Rattle.listing.specs.Given.{with_below}
 use Rattle.listing.proofs.Gained.{gathers_refl, gathers_each, gathers_all, below_alike}
-use borrow.Author.Rules.{rules}
 use Rattle.listing.proofs.given.list_each.Goals as goal
 
 nil : Block

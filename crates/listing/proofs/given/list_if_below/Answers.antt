@@ -1,11 +1,9 @@
 -- `list_if_below` meets its contract: the node is passed over, or listed.
 use mathlib.Core.Path.{sym, ◌∙◌}
 use native.Mathlib.Omega.{arith}
-use borrow.Author.Tests.{not-true, not-false}
 use Rattle.rules.specs.Tree.{below}
 use Rattle.rules.specs.Laws.Tabled.{tree_in}
 use Rattle.listing.proofs.Gained.{gains_passed, gains_kept}
-use borrow.Author.Rules.{rules}
 use Rattle.listing.proofs.given.list_if_below.Goals as goal
 
 pub returns-then-not-below : goal.returns-then-not-below

@@ -2,7 +2,6 @@
 use native.Mathlib.Omega.{arith}
 use Rattle.listing.specs.Given.{below_in}
 use Rattle.listing.proofs.Gained.{gains_with, below_alike}
-use borrow.Author.Rules.{rules}
 use Rattle.listing.proofs.given.list_with.Goals as goal
 
 pub list-n-requires : goal.list-n-requires

@@ -7,7 +7,6 @@ use Rattle.rules.specs.Octets.{lay}
 use Rattle.rules.proofs.Laws.Kept.{node_word}
 use Rattle.rules.proofs.Laws.Constants.{marks_at_lem, list_at_lem}
 use Rattle.listing.specs.State.{entered}
-use borrow.Author.Rules.{rules}
 use Rattle.listing.proofs.note.enter.Goals as goal
 
 pub overflow_add-x : goal.overflow_add-x

@@ -10,7 +10,6 @@ use Rattle.rules.proofs.Laws.Kept.{node_word}
 use Rattle.rules.proofs.Laws.Constants.{marks_at_lem, stack_at_lem}
 use Rattle.listing.specs.State.{entered}
 use Rattle.listing.proofs.Notes.{known, unknown, stacks_known, stacks-new}
-use borrow.Author.Rules.{rules}
 use Rattle.listing.proofs.note.note.Goals as goal
 
 pub overflow_add-x : goal.overflow_add-x

@@ -1,6 +1,5 @@
 -- `is_spared` meets its contract.
 use Rattle.listing.proofs.Sieved.{spared_root, spared_other}
-use borrow.Author.Rules.{rules}
 use Rattle.listing.proofs.sift.is_spared.Goals as goal
 
 pub returns-then-x-eq0 : goal.returns-then-x-eq0

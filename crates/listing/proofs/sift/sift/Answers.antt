@@ -1,10 +1,7 @@
 use mathlib.Core.List.{[]}
-use Prim.Native.Nat.{◌-◌, ◌≤◌}
 use native.Mathlib.Omega.{arith}
 use Rattle.rules.specs.Blob.{Block}
-use Rattle.listing.specs.Sift.{Sifts}
 use Rattle.listing.proofs.Sieved.{sifts_none, sifted}
-use borrow.Author.Rules.{rules}
 use Rattle.listing.proofs.sift.sift.Goals as goal
 
 nil : Block

@@ -1,11 +1,7 @@
 -- `sift` meets its contract. The invariant: the nodes up to here are sifted.
-use mathlib.Core.List.{[]}
 use Prim.Native.Nat.{◌-◌, ◌≤◌}
-use native.Mathlib.Omega.{arith}
 use Rattle.rules.specs.Blob.{Block}
 use Rattle.listing.specs.Sift.{Sifts}
-use Rattle.listing.proofs.Sieved.{sifts_none, sifted}
-use borrow.Author.Rules.{rules}
 use Rattle.listing.proofs.sift.sift.Given as goal
 
 abbrev pub invariant-loop-i : goal.invariant-loop-i

@@ -4,13 +4,11 @@ use mathlib.Core.List.{[], ◌∷◌}
 use Prim.Native.Nat.{ℕ, ◌+◌}
 use native.Mathlib.Omega.{arith}
 use lib.ListN.{get_or}
-use borrow.Author.Tests.{not-true, not-false}
 use Rattle.rules.specs.Octets.{lay}
 use Rattle.rules.specs.Space.{list_at}
 use Rattle.rules.proofs.Laws.Kept.{node_word}
 use Rattle.rules.proofs.Laws.Constants.{list_at_lem}
 use Rattle.listing.proofs.Sieved.{sifts-out, sifts-in}
-use borrow.Author.Rules.{rules}
 use Rattle.listing.proofs.sift.sift_one.Goals as goal
 
 pub overflow_add-i : goal.overflow_add-i

@@ -1,11 +1,7 @@
-use Prim.Native.Nat.{◌-◌, ◌/◌}
 use native.Mathlib.Omega.{arith}
-use lib.ListN.{length}
 use Rattle.references.specs.Rows.{meaning}
-use Rattle.listing.specs.State.{Stacks}
 use Rattle.listing.proofs.Notes.{stacks_refl}
-use Rattle.listing.proofs.Visits.{targets_from, scan_stop, scan-ahead, scan-target, scan-next}
-use borrow.Author.Rules.{rules}
+use Rattle.listing.proofs.Visits.{scan_stop, scan-ahead, scan-target, scan-next}
 use Rattle.rules.specs.Blob.{block_of}
 use Rattle.listing.proofs.visit.note_targets.Goals as goal
 

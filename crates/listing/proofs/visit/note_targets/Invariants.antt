@@ -1,13 +1,10 @@
 -- `note_targets` meets its contract. The invariant: what the targets from the first word on are to bring is there, but for what
 -- those from the present word on bring.
 use Prim.Native.Nat.{◌-◌, ◌/◌}
-use native.Mathlib.Omega.{arith}
 use lib.ListN.{length}
 use Rattle.references.specs.Rows.{meaning}
 use Rattle.listing.specs.State.{Stacks}
-use Rattle.listing.proofs.Notes.{stacks_refl}
-use Rattle.listing.proofs.Visits.{targets_from, scan_stop, scan-ahead, scan-target, scan-next}
-use borrow.Author.Rules.{rules}
+use Rattle.listing.proofs.Visits.{targets_from}
 use Rattle.rules.specs.Blob.{block_of}
 use Rattle.listing.proofs.visit.note_targets.Given as goal
 

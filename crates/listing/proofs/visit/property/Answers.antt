@@ -1,12 +1,10 @@
 -- `property` meets its contract: it holds no references, or those that its scan tells.
 use mathlib.Core.Path.{sym, ap, ◌∙◌}
-use borrow.Author.Tests.{not-true, not-false}
 use Rattle.rules.specs.Events.{string_at}
 use Rattle.rules.specs.References.{is_reference, cell_rows, cells_in}
 use Rattle.references.specs.Rows.{meaning}
 use Rattle.listing.specs.Visit.{property_of}
 use Rattle.listing.proofs.Visits.{property_none, property_some}
-use borrow.Author.Rules.{rules}
 use Rattle.rules.specs.Blob.{block_of}
 use Rattle.listing.proofs.visit.property.Goals as goal
 

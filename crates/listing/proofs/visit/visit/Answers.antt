@@ -1,12 +1,8 @@
-use Prim.Native.Nat.{◌-◌, ◌≤◌}
 use native.Mathlib.Omega.{arith}
-use lib.ListN.{length}
 use Rattle.rules.specs.Blob.{block_of}
 use Rattle.rules.proofs.Laws.Kept.{only_kept}
 use Rattle.tokens.proofs.Properties.{behind_inside, here_ahead}
-use Rattle.listing.specs.State.{Stacks}
-use Rattle.listing.proofs.Visits.{targets_of, targets_behind, visit_first, visit_stop, visit_on}
-use borrow.Author.Rules.{rules}
+use Rattle.listing.proofs.Visits.{visit_first, visit_stop, visit_on}
 use Rattle.listing.proofs.visit.visit.Goals as goal
 
 pub loop-len-init : goal.loop-len-init

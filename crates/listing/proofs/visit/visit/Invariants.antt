@@ -1,14 +1,10 @@
 -- `visit` meets its contract. The invariant: what the node's targets are to bring is there, but for what those bring that the
 -- properties from here on tell.
 use Prim.Native.Nat.{◌-◌, ◌≤◌}
-use native.Mathlib.Omega.{arith}
 use lib.ListN.{length}
 use Rattle.rules.specs.Blob.{block_of}
-use Rattle.rules.proofs.Laws.Kept.{only_kept}
-use Rattle.tokens.proofs.Properties.{behind_inside, here_ahead}
 use Rattle.listing.specs.State.{Stacks}
-use Rattle.listing.proofs.Visits.{targets_of, targets_behind, visit_first, visit_stop, visit_on}
-use borrow.Author.Rules.{rules}
+use Rattle.listing.proofs.Visits.{targets_of, targets_behind}
 use Rattle.listing.proofs.visit.visit.Given as goal
 
 abbrev pub invariant-loop-len : goal.invariant-loop-len

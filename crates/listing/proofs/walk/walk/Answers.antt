@@ -3,10 +3,7 @@ use Prim.Native.Nat.{ℕ, ◌+◌, ◌-◌}
 use native.Mathlib.Omega.{arith}
 use lib.ListN.{get_or}
 use Rattle.rules.proofs.Laws.Kept.{node_word, only_none, only_kept}
-use Rattle.listing.specs.State.{Apart, Piled}
-use Rattle.listing.specs.Walk.{work_from}
 use Rattle.listing.proofs.Walks.{top_small, popped, walk_turn, walk_apart, walk_less, walked}
-use borrow.Author.Rules.{rules}
 use Rattle.rules.specs.Blob.{block_of}
 use Rattle.rules.proofs.Laws.Constants.{stack_at_lem}
 use Rattle.listing.proofs.walk.walk.Goals as goal

@@ -1,15 +1,9 @@
 -- `walk` meets its contract. The invariant: what is listed, and what the work list still comes to, is what it came to at first.
-use mathlib.Core.Path.{◌≡◌, refl, ap, ◌∙◌}
-use Prim.Native.Nat.{ℕ, ◌+◌, ◌-◌}
-use native.Mathlib.Omega.{arith}
-use lib.ListN.{get_or}
-use Rattle.rules.proofs.Laws.Kept.{node_word, only_none, only_kept}
+use mathlib.Core.Path.{◌≡◌}
+use Prim.Native.Nat.{◌+◌, ◌-◌}
 use Rattle.listing.specs.State.{Apart, Piled}
 use Rattle.listing.specs.Walk.{work_from}
-use Rattle.listing.proofs.Walks.{top_small, popped, walk_turn, walk_apart, walk_less, walked}
-use borrow.Author.Rules.{rules}
 use Rattle.rules.specs.Blob.{block_of}
-use Rattle.rules.proofs.Laws.Constants.{stack_at_lem}
 use Rattle.listing.proofs.walk.walk.Given as goal
 
 abbrev pub invariant-loop-s : goal.invariant-loop-s

@@ -1,11 +1,8 @@
 use mathlib.Core.Path.{◌≡◌}
-use Prim.Native.Nat.{◌+◌, ◌-◌, ◌/◌, ◌≤◌}
+use Prim.Native.Nat.{◌+◌, ◌-◌, ◌/◌}
 use native.Mathlib.Omega.{arith}
-use Rattle.rules.specs.Octets.{Bytes}
 use Rattle.rules.specs.Laws.Tabled.{tree_of}
-use Rattle.order.specs.Region.{Halves}
 use Rattle.order.proofs.Regions.{between_start, step_up, step_down}
-use borrow.Author.Rules.{rules}
 use Rattle.order.proofs.sorted.halved.Goals as goal
 
 pub loop-low-init : goal.loop-low-init

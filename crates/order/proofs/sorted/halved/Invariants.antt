@@ -1,12 +1,7 @@
 -- `halved` meets its contract: those below come before the node, and those from above on do not.
-use mathlib.Core.Path.{◌≡◌}
-use Prim.Native.Nat.{◌+◌, ◌-◌, ◌/◌, ◌≤◌}
-use native.Mathlib.Omega.{arith}
+use Prim.Native.Nat.{◌-◌, ◌≤◌}
 use Rattle.rules.specs.Octets.{Bytes}
-use Rattle.rules.specs.Laws.Tabled.{tree_of}
 use Rattle.order.specs.Region.{Halves}
-use Rattle.order.proofs.Regions.{between_start, step_up, step_down}
-use borrow.Author.Rules.{rules}
 use Rattle.order.proofs.sorted.halved.Given as goal
 
 abbrev pub invariant-loop-low : goal.invariant-loop-low

@@ -1,12 +1,10 @@
-use mathlib.Core.Path.{◌≡◌, refl, ap, ◌∙◌}
+use mathlib.Core.Path.{refl, ap, ◌∙◌}
 use mathlib.Core.List.{[], ◌∷◌}
-use Prim.Native.Nat.{ℕ, ◌+◌, ◌≤◌}
+use Prim.Native.Nat.{ℕ, ◌+◌}
 use native.Mathlib.Omega.{arith}
-use lib.ListN.{length}
 use Rattle.rules.specs.Octets.{lay}
 use Rattle.rules.specs.Space.{stack_at}
-use Rattle.order.proofs.Regions.{moved, moved_start, moved_more, moved_done}
-use borrow.Author.Rules.{rules}
+use Rattle.order.proofs.Regions.{moved_start, moved_more, moved_done}
 use Rattle.order.proofs.sorted.insert.Goals as goal
 
 pub loop-i-init : goal.loop-i-init

@@ -2,7 +2,6 @@
 use native.Mathlib.Omega.{arith}
 use Rattle.rules.proofs.Laws.Kept.{node_word, put_in_part}
 use Rattle.rules.proofs.Laws.Constants.{stack_at_lem}
-use borrow.Author.Rules.{rules}
 use Rattle.order.proofs.sorted.put_node.Goals as goal
 
 pub overflow_add-i : goal.overflow_add-i

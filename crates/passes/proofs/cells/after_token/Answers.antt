@@ -2,7 +2,6 @@
 use mathlib.Core.Path.{sym, ap₂, ◌∙◌}
 use Rattle.passes.specs.Cells.{on_property}
 use Rattle.passes.proofs.Watched.{known}
-use borrow.Author.Rules.{rules}
 use borrow.Enum.Refused.{opened}
 use Rattle.passes.proofs.cells.after_token.Goals as goal
 

@@ -1,13 +1,7 @@
-use mathlib.Core.Path.{◌≡◌, sym, ◌∙◌}
-use Prim.Native.Nat.{ℕ, ◌-◌, ◌≤◌}
+use mathlib.Core.Path.{sym, ◌∙◌}
 use native.Mathlib.Omega.{arith}
-use lib.ListN.{length}
-use Rattle.rules.specs.Tree.{words_judged}
 use Rattle.rules.proofs.Laws.Tokens.{item_ahead}
-use Rattle.rules.specs.Laws.Events.{events_at}
-use Rattle.doubled.specs.Passes.{nodes_in}
-use Rattle.passes.proofs.Watched.{words_rest, words_start, words_stop, words_fault, words_go}
-use borrow.Author.Rules.{rules}
+use Rattle.passes.proofs.Watched.{words_start, words_stop, words_fault, words_go}
 use Rattle.rules.specs.Blob.{block_of}
 use borrow.Enum.Refused.{opened}
 use Rattle.passes.proofs.cells.cells.Goals as goal

@@ -1,14 +1,11 @@
 -- `cells` meets its contract. The invariant: from here on, with what is known of the node, the walk judges as the definition does.
-use mathlib.Core.Path.{◌≡◌, sym, ◌∙◌}
+use mathlib.Core.Path.{◌≡◌}
 use Prim.Native.Nat.{ℕ, ◌-◌, ◌≤◌}
-use native.Mathlib.Omega.{arith}
 use lib.ListN.{length}
 use Rattle.rules.specs.Tree.{words_judged}
-use Rattle.rules.proofs.Laws.Tokens.{item_ahead}
 use Rattle.rules.specs.Laws.Events.{events_at}
 use Rattle.doubled.specs.Passes.{nodes_in}
-use Rattle.passes.proofs.Watched.{words_rest, words_start, words_stop, words_fault, words_go}
-use borrow.Author.Rules.{rules}
+use Rattle.passes.proofs.Watched.{words_rest}
 use Rattle.rules.specs.Blob.{block_of}
 use Rattle.passes.proofs.cells.cells.Given as goal
 

@@ -2,7 +2,6 @@
 use borrow.Author.Tests.{eq-eqb, ne_eqb}
 use Rattle.passes.specs.Cells.{on_given}
 use Rattle.passes.proofs.Watched.{unknown, other, again}
-use borrow.Author.Rules.{rules}
 use borrow.Enum.Refused.{opened}
 use Rattle.passes.proofs.cells.given.Goals as goal
 

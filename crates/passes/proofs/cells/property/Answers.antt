@@ -2,7 +2,6 @@
 use borrow.Author.Tests.{eq-eqb, ne_eqb}
 use Rattle.passes.specs.Cells.{on_property}
 use Rattle.rules.proofs.Laws.Tests.{and_none}
-use borrow.Author.Rules.{rules}
 use Rattle.passes.proofs.cells.property.Goals as goal
 
 pub returns-then-is_phandle_name : goal.returns-then-is_phandle_name

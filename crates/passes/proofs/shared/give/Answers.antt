@@ -6,7 +6,6 @@ use Prim.Native.Nat.{ℕ}
 use native.Mathlib.Numerals.{add-one}
 use Rattle.passes.specs.declared.shared.Row.TheVariants.{Go}
 use Rattle.passes.specs.Rows.{row_give}
-use borrow.Author.Rules.{rules}
 use Rattle.passes.proofs.shared.give.Goals as goal
 
 pub returns-then-row_below : goal.returns-then-row_below

@@ -1,6 +1,5 @@
 -- `next_node` meets its contract.
 use native.Mathlib.Numerals.{add-one}
-use borrow.Author.Rules.{rules}
 use Rattle.passes.proofs.shared.next_node.Goals as goal
 
 pub returns-then-wants : goal.returns-then-wants

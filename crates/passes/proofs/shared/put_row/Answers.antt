@@ -4,7 +4,6 @@ use native.Mathlib.Omega.{arith}
 use borrow.Author.Tests.{le-ltb, lt-ltb}
 use Rattle.rules.specs.Ceilings.{node_words}
 use Rattle.passes.specs.Rows.{row_given}
-use borrow.Author.Rules.{rules}
 use Rattle.passes.proofs.shared.put_row.Goals as goal
 
 pub returns-then-work-i : goal.returns-then-work-i

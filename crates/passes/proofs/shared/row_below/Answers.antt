@@ -1,10 +1,8 @@
 use mathlib.Core.Path.{◌≡◌, sym, ap, ◌∙◌}
-use mathlib.Core.Bool.{false}
-use Prim.Native.Nat.{ℕ, ◌-◌, ◌≤◌}
+use Prim.Native.Nat.{ℕ}
 use native.Mathlib.Omega.{arith}
 use Rattle.passes.specs.Rows.{row_below}
 use Rattle.passes.proofs.Phandles.{below_none, below_more, below_hit}
-use borrow.Author.Rules.{rules}
 use Rattle.passes.proofs.shared.row_below.Goals as goal
 
 pub loop-j-init : goal.loop-j-init

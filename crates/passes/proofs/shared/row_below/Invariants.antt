@@ -1,11 +1,8 @@
 -- `row_below` meets its contract: none so far, one more, a hit.
-use mathlib.Core.Path.{◌≡◌, sym, ap, ◌∙◌}
+use mathlib.Core.Path.{◌≡◌}
 use mathlib.Core.Bool.{false}
-use Prim.Native.Nat.{ℕ, ◌-◌, ◌≤◌}
-use native.Mathlib.Omega.{arith}
+use Prim.Native.Nat.{◌-◌, ◌≤◌}
 use Rattle.passes.specs.Rows.{row_below}
-use Rattle.passes.proofs.Phandles.{below_none, below_more, below_hit}
-use borrow.Author.Rules.{rules}
 use Rattle.passes.proofs.shared.row_below.Given as goal
 
 abbrev pub invariant-loop-j : goal.invariant-loop-j

@@ -3,7 +3,6 @@ use borrow.Author.Tests.{le-ltb, lt-ltb, ne_eqb, eq-eqb}
 use Rattle.rules.specs.Ceilings.{node_words}
 use Rattle.rules.proofs.Laws.Tests.{and_nothing, and_none}
 use Rattle.passes.specs.Rows.{row_has}
-use borrow.Author.Rules.{rules}
 use Rattle.passes.proofs.shared.row_has.Goals as goal
 
 pub returns-then-work-i : goal.returns-then-work-i

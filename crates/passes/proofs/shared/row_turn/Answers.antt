@@ -2,10 +2,8 @@
 use mathlib.Core.Path.{sym, ap, ◌∙◌}
 use mathlib.Core.List.{List}
 use Prim.Native.Nat.{ℕ}
-use borrow.Author.Tests.{not-true, not-false}
 use Rattle.rules.specs.Octets.{word_at}
 use Rattle.passes.proofs.Phandles.{turn_begin, turn_end, turn_nop, turn_shut, turn-other, turn-give}
-use borrow.Author.Rules.{rules}
 use Rattle.passes.proofs.shared.row_turn.Goals as goal
 
 pub returns-then-not-wants : goal.returns-then-not-wants

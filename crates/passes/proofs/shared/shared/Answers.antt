@@ -1,13 +1,7 @@
-use mathlib.Core.Path.{◌≡◌, refl, sym, ◌∙◌}
-use Prim.Native.Nat.{ℕ, ◌-◌, ◌≤◌}
+use mathlib.Core.Path.{refl, sym, ◌∙◌}
 use native.Mathlib.Omega.{arith}
-use lib.ListN.{length}
 use Rattle.rules.proofs.Laws.Tokens.{item_ahead}
-use Rattle.passes.specs.Rows.{rows_from}
-use Rattle.rules.specs.Laws.Events.{events_at}
-use Rattle.doubled.specs.Passes.{nodes_in}
-use Rattle.passes.proofs.Phandles.{rows_rest, rows_start, rows_stop, rows_fault, rows_go, turn_number}
-use borrow.Author.Rules.{rules}
+use Rattle.passes.proofs.Phandles.{rows_start, rows_stop, rows_fault, rows_go, turn_number}
 use Rattle.rules.specs.Blob.{block_of}
 use borrow.Enum.Refused.{opened}
 use Rattle.passes.proofs.shared.shared.Goals as goal

@@ -1,14 +1,11 @@
 -- `shared` meets its contract. The invariant: from here on, the walk judges and writes as the definition does.
-use mathlib.Core.Path.{◌≡◌, refl, sym, ◌∙◌}
+use mathlib.Core.Path.{◌≡◌}
 use Prim.Native.Nat.{ℕ, ◌-◌, ◌≤◌}
-use native.Mathlib.Omega.{arith}
 use lib.ListN.{length}
-use Rattle.rules.proofs.Laws.Tokens.{item_ahead}
 use Rattle.passes.specs.Rows.{rows_from}
 use Rattle.rules.specs.Laws.Events.{events_at}
 use Rattle.doubled.specs.Passes.{nodes_in}
-use Rattle.passes.proofs.Phandles.{rows_rest, rows_start, rows_stop, rows_fault, rows_go, turn_number}
-use borrow.Author.Rules.{rules}
+use Rattle.passes.proofs.Phandles.{rows_rest}
 use Rattle.rules.specs.Blob.{block_of}
 use Rattle.passes.proofs.shared.shared.Given as goal
 

@@ -4,7 +4,6 @@ use Rattle.rules.specs.Octets.{ascii}
 use Rattle.rules.specs.Tree.{among, cells_names}
 use Rattle.rules.proofs.Laws.Tests.{or_nothing}
 use Rattle.passes.proofs.Watched.{none_of}
-use borrow.Author.Rules.{rules}
 use Rattle.passes.proofs.words.is_cells_name.Goals as goal
 
 pub returns-then-byte-ne35 : goal.returns-then-byte-ne35

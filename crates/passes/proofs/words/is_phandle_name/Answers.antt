@@ -2,7 +2,6 @@
 use Rattle.rules.specs.Octets.{ascii}
 use Rattle.rules.specs.Tree.{among, phandle_names}
 use Rattle.rules.proofs.Laws.Tests.{or_nothing}
-use borrow.Author.Rules.{rules}
 use Rattle.passes.proofs.words.is_phandle_name.Goals as goal
 
 pub returns-then-same : goal.returns-then-same

@@ -1,7 +1,6 @@
 -- `closes` meets its contract.
 use mathlib.Core.Path.{sym, ◌∙◌}
 use Rattle.paths.proofs.Endings.{closes_short, closes_not, closes_name}
-use borrow.Author.Rules.{rules}
 use Rattle.paths.proofs.lookup.closes.Goals as goal
 
 pub returns-then-e-name : goal.returns-then-e-name

@@ -1,17 +1,15 @@
-use mathlib.Core.Path.{refl, ◌≡◌, sym, ap, ◌∙◌}
+use mathlib.Core.Path.{◌≡◌, sym, ap, ◌∙◌}
 use mathlib.Core.Bool.{true, false}
 use mathlib.Core.List.{◌∷◌}
-use Prim.Native.Nat.{ℕ, ◌-◌, ◌≤◌}
+use Prim.Native.Nat.{ℕ, ◌-◌}
 use native.Mathlib.Omega.{arith}
 use lib.ListN.{length, take}
 use lib.Seq.{take-length}
-use borrow.Author.Tests.{not-true, not-false}
 use Rattle.rules.specs.Octets.{Bytes, same, ends}
-use Rattle.rules.specs.Tree.{path, spell, node}
+use Rattle.rules.specs.Tree.{spell, node}
 use Rattle.rules.specs.Laws.Tabled.{tree_of}
 use Rattle.paths.proofs.Climbs.{spell_none, spell_root, spell_step, path_root, path_other}
 use Rattle.paths.proofs.Endings.{closes_room, same_not, same_on, same_none}
-use borrow.Author.Rules.{rules}
 use Rattle.paths.proofs.lookup.has_path.Goals as goal
 
 pub returns-then-i-eq0 : goal.returns-then-i-eq0

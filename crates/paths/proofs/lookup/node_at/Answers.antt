@@ -1,13 +1,7 @@
-use mathlib.Core.Path.{◌≡◌, sym, ◌∙◌}
-use Prim.Native.Nat.{◌-◌, ◌≤◌}
+use mathlib.Core.Path.{sym, ◌∙◌}
 use native.Mathlib.Omega.{arith}
-use Rattle.rules.specs.Octets.{Bytes}
 use Rattle.rules.specs.Blob.{block_of}
-use Rattle.rules.specs.Tree.{frame}
-use Rattle.rules.specs.Derivation.{node_at}
-use Rattle.rules.specs.Laws.Tabled.{tree_of}
-use Rattle.paths.proofs.Climbs.{among_from, among_all, among_end, among_here, among_past}
-use borrow.Author.Rules.{rules}
+use Rattle.paths.proofs.Climbs.{among_all, among_end, among_here, among_past}
 use Rattle.paths.proofs.lookup.node_at.Goals as goal
 
 pub loop-i-init : goal.loop-i-init

@@ -1,14 +1,12 @@
 -- `node_at` meets its contract. The invariant: the answer is that of the search from i on.
-use mathlib.Core.Path.{◌≡◌, sym, ◌∙◌}
+use mathlib.Core.Path.{◌≡◌}
 use Prim.Native.Nat.{◌-◌, ◌≤◌}
-use native.Mathlib.Omega.{arith}
 use Rattle.rules.specs.Octets.{Bytes}
 use Rattle.rules.specs.Blob.{block_of}
 use Rattle.rules.specs.Tree.{frame}
 use Rattle.rules.specs.Derivation.{node_at}
 use Rattle.rules.specs.Laws.Tabled.{tree_of}
-use Rattle.paths.proofs.Climbs.{among_from, among_all, among_end, among_here, among_past}
-use borrow.Author.Rules.{rules}
+use Rattle.paths.proofs.Climbs.{among_from}
 use Rattle.paths.proofs.lookup.node_at.Given as goal
 
 abbrev pub invariant-loop-i : goal.invariant-loop-i

@@ -1,9 +1,6 @@
-use mathlib.Core.Path.{◌≡◌, refl, sym, ◌∙◌}
-use Rattle.rules.specs.Blob.{Block}
-use Rattle.rules.specs.Tree.{below, climb}
+use mathlib.Core.Path.{refl, sym, ◌∙◌}
 use Rattle.rules.specs.Laws.Tabled.{tree_in}
 use Rattle.paths.proofs.Climbs.{climb_none, climb_root, climb_hit, climb_on}
-use borrow.Author.Rules.{rules}
 use Rattle.paths.proofs.nodes.below.Goals as goal
 
 pub loop-left-init : goal.loop-left-init

@@ -1,10 +1,8 @@
 -- `below` meets its contract. The invariant: from here, with the steps that are left, one comes to p exactly if one does from m.
-use mathlib.Core.Path.{◌≡◌, refl, sym, ◌∙◌}
+use mathlib.Core.Path.{◌≡◌}
 use Rattle.rules.specs.Blob.{Block}
 use Rattle.rules.specs.Tree.{below, climb}
 use Rattle.rules.specs.Laws.Tabled.{tree_in}
-use Rattle.paths.proofs.Climbs.{climb_none, climb_root, climb_hit, climb_on}
-use borrow.Author.Rules.{rules}
 use Rattle.paths.proofs.nodes.below.Given as goal
 
 abbrev pub invariant-loop-left : goal.invariant-loop-left

@@ -7,7 +7,6 @@ use Rattle.rules.specs.Events.{string_at}
 use Rattle.rules.specs.Tree.{Node}
 use Rattle.rules.specs.Laws.Constants.{NODE_WORDS}
 use Rattle.rules.proofs.Laws.Tabled.{node_in_lem, node_out}
-use borrow.Author.Rules.{rules}
 use Rattle.paths.proofs.nodes.name.Goals as goal
 
 pub returns-then-count-i : goal.returns-then-count-i

@@ -2,7 +2,6 @@
 use mathlib.Core.Path.{sym, ap, ◌∙◌}
 use Rattle.rules.specs.Tree.{Node}
 use Rattle.rules.proofs.Laws.Tabled.{node_in_lem, node_out}
-use borrow.Author.Rules.{rules}
 use Rattle.paths.proofs.nodes.up.Goals as goal
 
 pub returns-then-count-i : goal.returns-then-count-i

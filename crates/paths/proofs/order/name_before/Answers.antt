@@ -1,12 +1,6 @@
-use mathlib.Core.Path.{◌≡◌, refl, sym, ◌∙◌}
-use mathlib.Core.List.{◌++◌}
-use Prim.Native.Nat.{◌-◌, ◌≤◌}
+use mathlib.Core.Path.{refl, sym, ◌∙◌}
 use native.Mathlib.Omega.{arith}
-use lib.ListN.{length}
-use Rattle.rules.specs.Octets.{before}
-use Rattle.paths.specs.Order.{slash}
-use Rattle.paths.proofs.Names.{from, name_ended, name_slash, name-differ, name-more, name_rest}
-use borrow.Author.Rules.{rules}
+use Rattle.paths.proofs.Names.{name_ended, name_slash, name-differ, name-more, name_rest}
 use Rattle.paths.proofs.order.name_before.Goals as goal
 
 pub loop-k-init : goal.loop-k-init

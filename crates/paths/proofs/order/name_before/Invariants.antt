@@ -1,13 +1,11 @@
 -- `name_before` meets its contract. The invariant: the answer is that for what is left of both from k on.
-use mathlib.Core.Path.{◌≡◌, refl, sym, ◌∙◌}
+use mathlib.Core.Path.{◌≡◌}
 use mathlib.Core.List.{◌++◌}
 use Prim.Native.Nat.{◌-◌, ◌≤◌}
-use native.Mathlib.Omega.{arith}
 use lib.ListN.{length}
 use Rattle.rules.specs.Octets.{before}
 use Rattle.paths.specs.Order.{slash}
-use Rattle.paths.proofs.Names.{from, name_ended, name_slash, name-differ, name-more, name_rest}
-use borrow.Author.Rules.{rules}
+use Rattle.paths.proofs.Names.{from}
 use Rattle.paths.proofs.order.name_before.Given as goal
 
 abbrev pub invariant-loop-k : goal.invariant-loop-k

@@ -1,10 +1,6 @@
-use Prim.Native.Nat.{◌+◌, ◌<◌}
 use native.Mathlib.Omega.{arith}
-use Rattle.rules.specs.Blob.{Block}
-use Rattle.rules.specs.Laws.Paths.{Formed}
 use Rattle.rules.specs.Laws.Tabled.{tree_in}
 use Rattle.rules.proofs.Laws.Tabled.{tree_length}
-use Rattle.paths.specs.Order.{Parted}
 use Rattle.paths.proofs.Ways.{both_start, climb_first, climb_second, meet}
 use Rattle.paths.proofs.order.parting.Goals as goal
 

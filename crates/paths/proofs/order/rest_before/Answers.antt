@@ -1,8 +1,6 @@
 -- `rest_before` meets its contract.
 use mathlib.Core.Path.{sym}
-use borrow.Author.Tests.{not-true, not-false}
 use Rattle.paths.proofs.Names.{rest_longer, rest_ended, rest_shorter, rest_differ, rest_slash, rest_last}
-use borrow.Author.Rules.{rules}
 use Rattle.paths.proofs.order.rest_before.Goals as goal
 
 pub returns-then-more : goal.returns-then-more

@@ -1,17 +1,10 @@
 -- `path_len` meets its contract. The invariant: what has been counted, with what is left of the path, is the whole.
-use mathlib.Core.List.{[]}
-use mathlib.Core.Path.{◌≡◌, sym, ap}
-use Prim.Native.Nat.{ℕ, ◌+◌, ◌-◌, ◌*◌, ◌≤◌}
-use native.Mathlib.Omega.{arith}
+use mathlib.Core.Path.{◌≡◌}
+use Prim.Native.Nat.{◌+◌, ◌-◌, ◌*◌, ◌≤◌}
 use lib.ListN.{length}
-use Rattle.rules.specs.Ceilings.{blob_ceiling, node_ceiling}
 use Rattle.rules.specs.Octets.{Bytes}
-use Rattle.rules.specs.Blob.{block_of}
 use Rattle.rules.specs.Tree.{path, spell}
 use Rattle.rules.specs.Laws.Tabled.{tree_of}
-use Rattle.paths.proofs.Climbs.{spell_none, spell_root, path_root, path_other}
-use Rattle.paths.proofs.Spellings.{name_short, path_out, spell_length}
-use borrow.Author.Rules.{rules}
 use Rattle.paths.proofs.spelling.path_len.Given as goal
 
 abbrev pub invariant-loop-left : goal.invariant-loop-left

@@ -3,7 +3,6 @@ use mathlib.Core.Path.{sym}
 use Prim.Native.Nat.{◌+◌}
 use native.Mathlib.Omega.{arith}
 use Rattle.rules.proofs.Laws.Octets.{lay_past}
-use borrow.Author.Rules.{rules}
 use Rattle.paths.proofs.spelling.put_behind.Goals as goal
 
 pub returns-then-out-at : goal.returns-then-out-at

@@ -1,14 +1,11 @@
 use mathlib.Core.List.{[]}
-use mathlib.Core.Path.{◌≡◌, refl, sym, ap, ◌∙◌}
-use Prim.Native.Nat.{◌-◌}
+use mathlib.Core.Path.{refl, sym, ap, ◌∙◌}
 use native.Mathlib.Omega.{arith}
-use lib.ListN.{length}
 use Rattle.rules.specs.Octets.{Bytes, lay, closed}
 use Rattle.rules.specs.Blob.{block_of}
 use Rattle.rules.specs.Laws.Tabled.{tree_of}
 use Rattle.paths.proofs.Climbs.{spell_none, spell_root, path_root}
-use Rattle.paths.proofs.Spellings.{Laid, laid_start, laid_room, laid_on, laid_end}
-use borrow.Author.Rules.{rules}
+use Rattle.paths.proofs.Spellings.{laid_start, laid_room, laid_on, laid_end}
 use Rattle.paths.proofs.spelling.spell.Goals as goal
 
 pub returns-then-i-eq0 : goal.returns-then-i-eq0

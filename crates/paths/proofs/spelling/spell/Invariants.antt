@@ -1,15 +1,9 @@
 -- `spell` meets its contract. The invariant: from `end` on the rest of the path stands in the buffer.
-use mathlib.Core.List.{[]}
-use mathlib.Core.Path.{◌≡◌, refl, sym, ap, ◌∙◌}
-use Prim.Native.Nat.{◌-◌}
-use native.Mathlib.Omega.{arith}
+use mathlib.Core.Path.{◌≡◌}
 use lib.ListN.{length}
-use Rattle.rules.specs.Octets.{Bytes, lay, closed}
-use Rattle.rules.specs.Blob.{block_of}
+use Rattle.rules.specs.Octets.{Bytes}
 use Rattle.rules.specs.Laws.Tabled.{tree_of}
-use Rattle.paths.proofs.Climbs.{spell_none, spell_root, path_root}
-use Rattle.paths.proofs.Spellings.{Laid, laid_start, laid_room, laid_on, laid_end}
-use borrow.Author.Rules.{rules}
+use Rattle.paths.proofs.Spellings.{Laid}
 use Rattle.paths.proofs.spelling.spell.Given as goal
 
 abbrev pub invariant-loop-left : goal.invariant-loop-left

@@ -2,7 +2,7 @@ use mathlib.Core.Logic.{inl, inr}
 use native.Mathlib.Omega.{arith}
 use Rattle.rules.proofs.Laws.Kept.{node_word, put_in_part}
 use Rattle.rules.proofs.Laws.Constants.{names_at_lem}
-use Rattle.picks.proofs.Marking.{Climbing, climbing_first, climbing_done, climbing_more, up_small}
+use Rattle.picks.proofs.Marking.{climbing_first, climbing_done, climbing_more, up_small}
 use borrow.Author.Rules.{rules}
 use Rattle.picks.proofs.marks.above.Goals as goal
 

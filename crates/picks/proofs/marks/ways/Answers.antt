@@ -2,7 +2,6 @@
 use Rattle.rules.proofs.Laws.Constants.{node_ceiling_lem, marks_at_lem, names_at_lem}
 use Rattle.picks.proofs.Places.{cleared_as}
 use Rattle.picks.proofs.Marking.{cleared_keeps, cleared_small, cleared_none_marked, cleared_noted}
-use borrow.Author.Rules.{rules}
 use Rattle.picks.proofs.marks.ways.Goals as goal
 
 pub note-requires : goal.note-requires

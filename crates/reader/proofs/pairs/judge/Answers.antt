@@ -4,7 +4,6 @@ use native.Mathlib.Omega.{arith}
 use Rattle.rules.specs.Ceilings.{blob_ceiling}
 use Rattle.doubled.specs.Passes.{Inside}
 use Rattle.reader.proofs.Twins.{tables, is_doubled, is-cells, is_shared, is_none}
-use borrow.Author.Rules.{rules}
 use Rattle.reader.proofs.pairs.judge.Goals as goal
 
 pub overflow_add-result : goal.overflow_add-result

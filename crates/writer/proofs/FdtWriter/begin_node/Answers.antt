@@ -9,7 +9,6 @@ use Rattle.judge.specs.Meaning.{number_of}
 use Rattle.judge.specs.Judged.{verdict_of}
 use Rattle.writer.specs.Meaning.{state_of}
 use Rattle.writer.proofs.Passed.{answer_refused, answer_done, kept, changed, begin_passed}
-use borrow.Author.Rules.{rules}
 use Rattle.writer.proofs.FdtWriter.begin_node.Goals as goal
 
 pub overflow_add-self : goal.overflow_add-self

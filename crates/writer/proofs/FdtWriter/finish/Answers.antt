@@ -1,6 +1,5 @@
 -- `FdtWriter::finish` meets its contract: refused, all stays; passed, END, strings and header are laid in.
 use mathlib.Core.Path.{◌≡◌, sym, ap, ◌∙◌}
-use Prim.Native.Nat.{◌-◌}
 use native.Mathlib.Omega.{arith}
 use lib.ListN.{length}
 use Rattle.rules.specs.Ceilings.{blob_ceiling}
@@ -10,7 +9,6 @@ use Rattle.judge.specs.Meaning.{number_of}
 use Rattle.judge.specs.Judged.{verdict_of}
 use Rattle.writer.specs.Meaning.{state_of}
 use Rattle.writer.proofs.Passed.{answer_refused, answer_done, kept, finish_passed, finish_left}
-use borrow.Author.Rules.{rules}
 use Rattle.writer.proofs.FdtWriter.finish.Goals as goal
 
 pub overflow_add-off_dt_strings : goal.overflow_add-off_dt_strings

@@ -10,7 +10,6 @@ use Rattle.rules.specs.Octets.{zeros, lay}
 use Rattle.rules.proofs.Laws.Octets.{lay_nil}
 use Rattle.rules.specs.Writer.{fresh, room}
 use Rattle.writer.proofs.Starts.{start_none, none_short, none_fits, granted_none, granted_all, start_refused, start_done}
-use borrow.Author.Rules.{rules}
 use Rattle.writer.proofs.FdtWriter.new.Goals as goal
 
 pub returns-then-granted-n : goal.returns-then-granted-n

@@ -5,7 +5,6 @@ use Rattle.rules.specs.Octets.{words64}
 use Rattle.rules.proofs.Laws.Writer.{length_words64}
 use Rattle.writer.specs.Meaning.{state_of}
 use Rattle.writer.proofs.Properties.{at_place, size_of, property_refused, property_done}
-use borrow.Author.Rules.{rules}
 use Rattle.writer.proofs.FdtWriter.property_array_u64.Goals as goal
 
 pub with_property-requires : goal.with_property-requires

@@ -2,7 +2,6 @@
 use lib.ListN.{length}
 use Rattle.writer.specs.Meaning.{state_of}
 use Rattle.writer.proofs.Properties.{at_place, property_refused, property_done}
-use borrow.Author.Rules.{rules}
 use Rattle.writer.proofs.FdtWriter.property_bytes.Goals as goal
 
 pub with_property-requires : goal.with_property-requires

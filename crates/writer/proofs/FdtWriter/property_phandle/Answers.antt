@@ -5,7 +5,6 @@ use Rattle.rules.specs.Octets.{ascii}
 use Rattle.rules.proofs.Laws.Writer.{words32_one}
 use Rattle.writer.specs.Meaning.{state_of}
 use Rattle.writer.proofs.Phandles.{at_noted, phandle_refused, phandle_done}
-use borrow.Author.Rules.{rules}
 use Rattle.writer.proofs.FdtWriter.property_phandle.Goals as goal
 
 pub overflow_add-self : goal.overflow_add-self

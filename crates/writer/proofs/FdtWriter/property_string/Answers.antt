@@ -4,7 +4,6 @@ use Rattle.rules.specs.Octets.{has_nul, closed}
 use Rattle.rules.proofs.Laws.Writer.{length_closed}
 use Rattle.writer.specs.Meaning.{state_of}
 use Rattle.writer.proofs.Properties.{at_place, size_of, property_refused, property_done}
-use borrow.Author.Rules.{rules}
 use Rattle.writer.proofs.FdtWriter.property_string.Goals as goal
 
 pub with_property-requires : goal.with_property-requires

@@ -1,5 +1,4 @@
 -- `FdtWriter::property_string_list` meets its contract.
-use borrow.Author.Rules.{rules}
 use Rattle.writer.proofs.FdtWriter.property_string_list.Goals as goal
 
 pub returns : goal.returns

@@ -1,6 +1,5 @@
 -- `FdtWriter::property_u32` meets its contract: one number is an array of one.
 use Rattle.rules.proofs.Laws.Writer.{words32_one}
-use borrow.Author.Rules.{rules}
 use Rattle.writer.proofs.FdtWriter.property_u32.Goals as goal
 
 pub returns : goal.returns

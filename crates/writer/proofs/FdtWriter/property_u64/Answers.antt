@@ -1,6 +1,5 @@
 -- `FdtWriter::property_u64` meets its contract: one number is an array of one.
 use Rattle.rules.proofs.Laws.Writer.{words64_one}
-use borrow.Author.Rules.{rules}
 use Rattle.writer.proofs.FdtWriter.property_u64.Goals as goal
 
 pub returns : goal.returns
