@@ -1,6 +1,6 @@
 -- A case of the derivation in one buffer: a head of twelve numbers, and the parts behind it.
-use Rattle.std.specs.Prelude.{List, [], ◌∷◌, ℕ, zero, suc, ◌+◌, ◌*◌, eqb, ltb, leb}
-use Rattle.rules.specs.Octets.{Bytes, if◌then◌else◌, word_at, long_at, part}
+use Rattle.std.specs.Prelude.{List, [], ◌∷◌, ℕ, zero, suc, ◌+◌, ◌*◌, eqb, ltb, leb, if◌then◌else◌}
+use Rattle.rules.specs.Octets.{Bytes, word_at, long_at, part}
 
 -- A place n further on. No place of a case comes near the bound, which keeps the sum from wrapping.
 abbrev pub up_by : ℕ → ℕ → ℕ

@@ -1,7 +1,7 @@
 -- How a register is read.
-use Rattle.std.specs.Prelude.{◌||◌, List, ℕ, eqb, length}
+use Rattle.std.specs.Prelude.{◌||◌, List, ℕ, eqb, length, if◌then◌else◌}
 use Rattle.std.proofs.Math.Option.{Option, none, some}
-use Rattle.rules.specs.Octets.{Bytes, if◌then◌else◌, number, ascii}
+use Rattle.rules.specs.Octets.{Bytes, number, ascii}
 use Rattle.rules.specs.Events.{Property}
 use Rattle.rules.specs.Tree.{value_of}
 use Rattle.rules.specs.Copy.{register_of}

@@ -1,4 +1,5 @@
 -- Both outputs, measured and written.
+use Rattle.std.specs.Prelude.{if◌then◌else◌}
 use mathlib.Core.Path.{◌≡◌, refl, sym, ap, ap₂, ◌∙◌}
 use mathlib.Core.Bool.{Bool, true, false, ◌&&◌}
 use mathlib.Core.List.{List, [], map}
@@ -10,7 +11,7 @@ use lib.ListN.{length, get_or, take, drop, length-take, length-drop, length-map}
 use lib.Seq.{get_or-take, get_or-drop, ext_get_or}
 use borrow.Author.Tests.{lt-ltb, le-ltb, lt-leb, le-leb, leb-true}
 use Rattle.rules.specs.Ceilings.{blob_ceiling, node_ceiling, work_words}
-use Rattle.rules.specs.Octets.{Bytes, if◌then◌else◌, put, lay}
+use Rattle.rules.specs.Octets.{Bytes, put, lay}
 use Rattle.rules.specs.Outcome.{Outcome, gives, refuses, ◌then◌}
 use Rattle.rules.specs.Blob.{Block}
 use Rattle.rules.specs.Events.{Event, events_in}

@@ -1,7 +1,6 @@
 -- What the list and the marks are, in the work space.
-use Rattle.std.specs.Prelude.{◌≡◌, List, ℕ, ◌+◌, ◌≤◌, ◌<◌, length, get_or, take, drop}
+use Rattle.std.specs.Prelude.{◌≡◌, List, ℕ, ◌+◌, ◌≤◌, ◌<◌, length, get_or, take, drop, if◌then◌else◌}
 use Rattle.rules.specs.Ceilings.{node_ceiling, work_words}
-use Rattle.rules.specs.Octets.{if◌then◌else◌}
 use Rattle.rules.specs.Blob.{Block}
 use Rattle.rules.specs.References.{edition1}
 use Rattle.rules.specs.Listing.{listed}

@@ -1,8 +1,9 @@
 -- Two answers that say the same are the same: the meaning of an answer gives it back.
+use Rattle.std.specs.Prelude.{if◌then◌else◌}
 use mathlib.Core.Path.{◌≡◌, refl, sym, ap, ◌∙◌}
 use Prim.Native.Nat.{ℕ}
 use lib.Dec.{eqb, leb}
-use Rattle.rules.specs.Octets.{Bytes, if◌then◌else◌}
+use Rattle.rules.specs.Octets.{Bytes}
 use Rattle.rules.specs.Outcome.{Outcome, gives, refuses}
 use Rattle.rules.specs.References.{edition1}
 use Rattle.rules.specs.Device.{Found, find}

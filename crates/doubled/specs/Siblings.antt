@@ -1,7 +1,7 @@
 -- Siblings of one name, by the rows of the node table.
-use Rattle.std.specs.Prelude.{◌≡◌, Bool, false, ◌&&◌, ◌||◌, List, [], ◌∷◌, ℕ, zero, suc, ◌+◌, ◌-◌, ◌*◌, ◌≤◌, ◌<◌, eqb, leb, length, get_or, drop}
+use Rattle.std.specs.Prelude.{◌≡◌, Bool, false, ◌&&◌, ◌||◌, List, [], ◌∷◌, ℕ, zero, suc, ◌+◌, ◌-◌, ◌*◌, ◌≤◌, ◌<◌, eqb, leb, length, get_or, drop, if◌then◌else◌}
 use Rattle.rules.specs.Ceilings.{node_words, node_ceiling, work_words}
-use Rattle.rules.specs.Octets.{Bytes, if◌then◌else◌, byte_at, begins}
+use Rattle.rules.specs.Octets.{Bytes, byte_at, begins}
 use Rattle.rules.specs.Tree.{Tree, node, doubled_props}
 use Rattle.rules.specs.Outcome.{Verdict, ◌then◌, first}
 use Rattle.rules.specs.Events.{node_name_at}

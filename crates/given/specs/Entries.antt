@@ -1,7 +1,7 @@
 -- The entry at a place of a path list, and that the entries one after the other are those of the definition.
-use Rattle.std.specs.Prelude.{◌≡◌, Bool, true, false, List, [], ◌∷◌, ℕ, ◌+◌, ◌-◌, ◌≤◌, ◌<◌, ltb, length, drop}
+use Rattle.std.specs.Prelude.{◌≡◌, Bool, true, false, List, [], ◌∷◌, ℕ, ◌+◌, ◌-◌, ◌≤◌, ◌<◌, ltb, length, drop, if◌then◌else◌}
 use Rattle.std.proofs.Common.{sym, ap, ◌∙◌, subst, arith, ltb-true, ltb-false}
-use Rattle.rules.specs.Octets.{Bytes, if◌then◌else◌, part, nul_in}
+use Rattle.rules.specs.Octets.{Bytes, part, nul_in}
 use Rattle.rules.specs.Derivation.{Given}
 use Rattle.rules.proofs.Laws.Tokens.{if_by}
 use Rattle.rules.specs.Laws.Given.{given_at}

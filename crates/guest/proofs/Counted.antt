@@ -1,4 +1,5 @@
 -- The invariant of `measure`: the sums so far, and what the rest adds to them, are those of the whole copy.
+use Rattle.std.specs.Prelude.{if◌then◌else◌}
 use mathlib.Core.Path.{◌≡◌, refl, sym, ap, ◌∙◌}
 use mathlib.Core.Bool.{Bool}
 use mathlib.Core.List.{List, [], ◌∷◌, ◌++◌, append_assoc, append-nil}
@@ -10,7 +11,7 @@ use types.Run.{OneOf}
 use denote.Enum.Declared.{tag_of}
 use Rattle.rules.specs.contracts.Token as tokened
 use Rattle.rules.specs.Ceilings.{blob_ceiling, work_words}
-use Rattle.rules.specs.Octets.{Bytes, if◌then◌else◌}
+use Rattle.rules.specs.Octets.{Bytes}
 use Rattle.rules.specs.Blob.{Block, block_of}
 use Rattle.rules.specs.Tokens.{token_at}
 use Rattle.rules.specs.Events.{Event, events_in}

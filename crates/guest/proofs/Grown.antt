@@ -1,4 +1,5 @@
 -- What the blocks of the copy grow by: the structure by each event, and the strings by each name that no property before had.
+use Rattle.std.specs.Prelude.{if◌then◌else◌}
 use mathlib.Core.Path.{◌≡◌, refl, sym, ap, ◌∙◌}
 use mathlib.Core.Bool.{Bool, true, false, ◌&&◌, ◌||◌}
 use mathlib.Core.List.Memᴰ
@@ -10,7 +11,7 @@ use lib.Dec.{eqb}
 use lib.ListN.{length, take, drop, length-append}
 use lib.Seq.{drop_at, take-nil}
 use borrow.Author.Tests.{ne_eqb, eqb-true, eqb-false, lt-ltb, le-ltb}
-use Rattle.rules.specs.Octets.{Bytes, if◌then◌else◌, nul_in, closed, same, begins}
+use Rattle.rules.specs.Octets.{Bytes, nul_in, closed, same, begins}
 use Rattle.rules.specs.Blob.{Block, block_of}
 use Rattle.rules.specs.Tokens.{Placed}
 use Rattle.rules.specs.Events.{Event, opens, has, closes, string_at, saying, events_of, events_in}

@@ -1,4 +1,5 @@
 -- The copy from a place on, a token at a time: its names and its sizes.
+use Rattle.std.specs.Prelude.{if◌then◌else◌}
 use mathlib.Core.Path.{◌≡◌, refl, sym, ap, ◌∙◌, subst}
 use mathlib.Core.Bool.{Bool, true, false, ◌&&◌}
 use mathlib.Core.List.{List, [], ◌∷◌, ◌++◌}
@@ -10,7 +11,7 @@ use types.Run.{OneOf, miss}
 use denote.Enum.Declared.{tag_of}
 use borrow.Author.Tests.{leb-true}
 use Rattle.rules.specs.contracts.Token as tokened
-use Rattle.rules.specs.Octets.{Bytes, if◌then◌else◌, part, word_at, nul_in, padded}
+use Rattle.rules.specs.Octets.{Bytes, part, word_at, nul_in, padded}
 use Rattle.rules.specs.Blob.{Block, block_of}
 use Rattle.rules.specs.Tokens.{begin_at, prop_at, tagged, token_at}
 use Rattle.rules.specs.Events.{Event, opens, has, closes, node_name_at, string_at, saying}

@@ -1,10 +1,10 @@
 -- What the copy takes, without writing it. A name adds to the strings where no copied property before had it. The names met so far
 -- stand in the work space from the stack on, a word each, the name's offset in the host's strings; where there is no more room, the
 -- tokens before are searched.
-use Rattle.std.specs.Prelude.{◌≡◌, Bool, true, false, ◌||◌, List, [], ◌∷◌, ◌++◌, ℕ, zero, suc, ◌+◌, ◌-◌, ◌*◌, ◌≤◌, ◌<◌, eqb, ltb, length, get_or}
+use Rattle.std.specs.Prelude.{◌≡◌, Bool, true, false, ◌||◌, List, [], ◌∷◌, ◌++◌, ℕ, zero, suc, ◌+◌, ◌-◌, ◌*◌, ◌≤◌, ◌<◌, eqb, ltb, length, get_or, if◌then◌else◌}
 use Rattle.rules.specs.Ceilings.{blob_ceiling, work_words}
 use Rattle.rules.specs.Space.{stack_at}
-use Rattle.rules.specs.Octets.{Bytes, if◌then◌else◌, lay, same}
+use Rattle.rules.specs.Octets.{Bytes, lay, same}
 use Rattle.rules.specs.Blob.{block_of}
 use Rattle.rules.specs.Events.{Event, opens, has, closes, string_at, events_in}
 use Rattle.rules.specs.Writer.{begin_bytes, end_bytes, property_bytes}

@@ -1,9 +1,9 @@
 -- The walk of the copy over the tokens. Instead of the open nodes it keeps how many of them are not copied: where the marks are
 -- closed upwards, nothing below a node that is not copied is copied, so that this number says all that the sieve asks of them.
-use Rattle.std.specs.Prelude.{◌≡◌, Bool, false, ◌&&◌, List, [], ◌∷◌, ℕ, ◌+◌, ◌-◌, ◌≤◌, eqb, ltb, get_or}
+use Rattle.std.specs.Prelude.{◌≡◌, Bool, false, ◌&&◌, List, [], ◌∷◌, ℕ, ◌+◌, ◌-◌, ◌≤◌, eqb, ltb, get_or, if◌then◌else◌}
 use Rattle.rules.specs.Ceilings.{blob_ceiling, node_ceiling, work_words}
 use Rattle.rules.specs.Space.{marks_at, stack_at}
-use Rattle.rules.specs.Octets.{Bytes, if◌then◌else◌, part}
+use Rattle.rules.specs.Octets.{Bytes, part}
 use Rattle.rules.specs.Outcome.{passes}
 use Rattle.rules.specs.Blob.{Block, block_of}
 use Rattle.rules.specs.Events.{Event, opens, has, closes, node_name_at, string_at, shape_judged, events_in}

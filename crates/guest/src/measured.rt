@@ -1,7 +1,6 @@
 // What the copy takes, token by token, without writing it.
-ghost use Rattle.std.specs.Prelude.{◌≡◌, ◌+◌, ◌≤◌, length, take};
+ghost use Rattle.std.specs.Prelude.{◌≡◌, ◌+◌, ◌≤◌, length, take, if◌then◌else◌};
 ghost use Rattle.rules.specs.Ceilings.{blob_ceiling};
-ghost use Rattle.rules.specs.Octets.{if◌then◌else◌};
 ghost use Rattle.rules.specs.Events.{string_at};
 ghost use Rattle.guest.specs.declared.walk.Named.TheVariants.{At};
 ghost use Rattle.guest.specs.Walked.{marked, copies};

@@ -1,7 +1,8 @@
 -- Any two answers that the promise of `judge` allows are equal.
+use Rattle.std.specs.Prelude.{if◌then◌else◌}
 use mathlib.Core.Path.{◌≡◌, refl, sym, ap, ◌∙◌}
 use lib.Dec.{eqb}
-use Rattle.rules.specs.Octets.{Bytes, if◌then◌else◌}
+use Rattle.rules.specs.Octets.{Bytes}
 use Rattle.rules.specs.Outcome.{Verdict, gives, refuses}
 use Rattle.rules.proofs.Laws.Verdicts.{gives_refuses}
 use Rattle.header.specs.declared.Head.{Head}

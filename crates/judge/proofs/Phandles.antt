@@ -1,4 +1,5 @@
 -- The tests of `property_phandle` are those of a property, between its own.
+use Rattle.std.specs.Prelude.{if◌then◌else◌}
 use mathlib.Core.Path.{◌≡◌, refl, sym, ap, ◌∙◌}
 use mathlib.Core.Bool.{Bool, true, false}
 use mathlib.Core.List.{List, [], ◌∷◌, ◌++◌}
@@ -7,7 +8,7 @@ use native.Mathlib.Omega.{arith}
 use lib.Dec.{ltb}
 use lib.ListN.{length, take}
 use borrow.Author.Tests.{lt-ltb, le-ltb}
-use Rattle.rules.specs.Octets.{Bytes, if◌then◌else◌, be32}
+use Rattle.rules.specs.Octets.{Bytes, be32}
 use Rattle.rules.specs.Lists.{one_of}
 use Rattle.rules.specs.Outcome.{gives, refuses, Test, first, ◌then◌}
 use Rattle.rules.specs.Writer.{State, impossible, name_offset, test, strings_of, property_at, property_tests, phandle_name, phandle_judged}

@@ -1,11 +1,12 @@
 -- A property's tests: what a judgement gives, and what the strings grow by.
+use Rattle.std.specs.Prelude.{if◌then◌else◌}
 use mathlib.Core.Path.{◌≡◌, refl}
 use Prim.Native.Nat.{ℕ, ◌+◌, ◌≤◌}
 use native.Mathlib.Omega.{arith}
 use lib.Dec.{ltb}
 use lib.ListN.{length}
 use lib.Seq.{length-take-le}
-use Rattle.rules.specs.Octets.{Bytes, if◌then◌else◌}
+use Rattle.rules.specs.Octets.{Bytes}
 use Rattle.rules.specs.Outcome.{gives, refuses, Verdict, passes, ◌then◌}
 use Rattle.rules.specs.Writer.{State, name_offset, name_growth, strings_of, growth}
 use Rattle.rules.proofs.Laws.Tests.{by_test}

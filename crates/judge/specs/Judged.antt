@@ -1,7 +1,7 @@
 -- What the tests of a call answer: the definitions of rules, with a property's size for its value.
-use Rattle.std.specs.Prelude.{◌≡◌, refl, Bool, not, List, [], ◌∷◌, ℕ, ◌+◌, eqb, ltb, length}
+use Rattle.std.specs.Prelude.{◌≡◌, refl, Bool, not, List, [], ◌∷◌, ℕ, ◌+◌, eqb, ltb, length, if◌then◌else◌}
 use Rattle.std.proofs.Common.{sym, ap, ◌∙◌}
-use Rattle.rules.specs.Octets.{Bytes, if◌then◌else◌, has_nul, closed}
+use Rattle.rules.specs.Octets.{Bytes, has_nul, closed}
 use Rattle.rules.specs.Names.{property_name_valid}
 use Rattle.rules.specs.Outcome.{Outcome, gives, refuses, Verdict, passes, first, ◌then◌}
 use Rattle.rules.specs.Writer.{State, wrong_state, test, no_room, growth, strings_of, name_offset, phandle_name, phandle_judged}

@@ -3,9 +3,9 @@
 
 pub mod start;
 
-ghost use Rattle.std.specs.Prelude.{◌≡◌, ◌+◌, ◌*◌, ◌/◌, ◌≤◌, ◌<◌, ◌^◌, ltb, length, take};
+ghost use Rattle.std.specs.Prelude.{◌≡◌, ◌+◌, ◌*◌, ◌/◌, ◌≤◌, ◌<◌, ◌^◌, ltb, length, take, if◌then◌else◌};
 ghost use Rattle.rules.specs.Lists.{one_of};
-ghost use Rattle.rules.specs.Octets.{if◌then◌else◌, padded, has_nul};
+ghost use Rattle.rules.specs.Octets.{padded, has_nul};
 ghost use Rattle.rules.specs.Writer.{room, impossible, begin_judged, end_judged, finish_judged, bad_list};
 ghost use Rattle.judge.specs.Meaning.{state_of, number_of};
 ghost use Rattle.judge.specs.Judged.{verdict_of, place_of, placed, phandle_placed};

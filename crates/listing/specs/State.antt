@@ -1,7 +1,7 @@
 -- The work space while nodes are listed: the list of nodes, a mark for each node that is on it, and the stack of nodes to visit.
-use Rattle.std.specs.Prelude.{◌≡◌, Bool, List, [], ◌∷◌, ◌++◌, ℕ, ◌+◌, ◌≤◌, ◌<◌, length, get_or}
+use Rattle.std.specs.Prelude.{◌≡◌, Bool, List, [], ◌∷◌, ◌++◌, ℕ, ◌+◌, ◌≤◌, ◌<◌, length, get_or, if◌then◌else◌}
 use Rattle.rules.specs.Ceilings.{node_ceiling, work_words}
-use Rattle.rules.specs.Octets.{if◌then◌else◌, lay}
+use Rattle.rules.specs.Octets.{lay}
 use Rattle.rules.specs.Lists.{one_of, fresh}
 use Rattle.rules.specs.Listing.{◌∈◌}
 use Rattle.rules.specs.Space.{table_words, marks_at, list_at, list_in, stack_in}

@@ -1,4 +1,5 @@
 -- Refusal 11 as a walk over events, and the names that it reads.
+use Rattle.std.specs.Prelude.{if◌then◌else◌}
 use mathlib.Core.Path.{◌≡◌, refl, sym, ap, ◌∙◌}
 use mathlib.Core.Bool.{Bool, true, false, not, ◌&&◌, ◌||◌}
 use mathlib.Core.List.{List, [], ◌∷◌}
@@ -10,7 +11,7 @@ use lib.ListN.{length}
 use types.Run.{OneOf, miss}
 use denote.Enum.Declared.{tag_of}
 use borrow.Author.Tests.{eqb-true, eq-eqb, ne_eqb}
-use Rattle.rules.specs.Octets.{Bytes, if◌then◌else◌, byte_at, word_at, ascii, same}
+use Rattle.rules.specs.Octets.{Bytes, byte_at, word_at, ascii, same}
 use Rattle.rules.specs.Outcome.{Verdict, refuses, passes, ◌then◌, first}
 use Rattle.rules.specs.Blob.{Block, block_of}
 use Rattle.rules.specs.Events.{Property, Event, opens, has, closes, saying, events_in}

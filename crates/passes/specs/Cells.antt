@@ -1,7 +1,7 @@
 -- Refusal 11, token by token.
-use Rattle.std.specs.Prelude.{not, ◌&&◌, ℕ, eqb, length}
+use Rattle.std.specs.Prelude.{not, ◌&&◌, ℕ, eqb, length, if◌then◌else◌}
 use Rattle.std.proofs.Math.Option.{Option, none, some}
-use Rattle.rules.specs.Octets.{Bytes, if◌then◌else◌, word_at, part}
+use Rattle.rules.specs.Octets.{Bytes, word_at, part}
 use Rattle.rules.specs.Events.{string_at}
 use Rattle.rules.specs.Tree.{is_phandle, among, cells_names, differs}
 use Rattle.rules.specs.declared.Kind.{Kind}

@@ -1,8 +1,8 @@
 -- Refusal 12, on the rows of the node table: what a work space becomes.
-use Rattle.std.specs.Prelude.{Bool, true, false, ◌&&◌, ◌||◌, List, [], ◌∷◌, ℕ, zero, suc, ◌+◌, ◌*◌, eqb, get_or, set}
+use Rattle.std.specs.Prelude.{Bool, true, false, ◌&&◌, ◌||◌, List, [], ◌∷◌, ℕ, zero, suc, ◌+◌, ◌*◌, eqb, get_or, set, if◌then◌else◌}
 use Rattle.std.proofs.Math.Option.{none, some}
 use Rattle.rules.specs.Ceilings.{node_words}
-use Rattle.rules.specs.Octets.{Bytes, if◌then◌else◌, word_at, part}
+use Rattle.rules.specs.Octets.{Bytes, word_at, part}
 use Rattle.rules.specs.Outcome.{Verdict, refuses, passes}
 use Rattle.rules.specs.Events.{string_at}
 use Rattle.rules.specs.Tree.{Node, is_phandle, phandle_prop}

@@ -1,4 +1,5 @@
 -- Two ways up from two nodes, until they meet: where they part, the paths do.
+use Rattle.std.specs.Prelude.{if◌then◌else◌}
 use mathlib.Core.Path.{◌≡◌, refl, sym, ap, ap₂, subst, ◌∙◌}
 use mathlib.Core.Logic.{◌⊎◌, inl, inr}
 use mathlib.Core.Bool.{true, false, not}
@@ -8,7 +9,7 @@ use native.Mathlib.Omega.{arith}
 use lib.Dec.{eqb, ltb}
 use lib.ListN.{length}
 use borrow.Author.Tests.{eq-eqb, ne_eqb, lt-ltb}
-use Rattle.rules.specs.Octets.{Bytes, if◌then◌else◌, before}
+use Rattle.rules.specs.Octets.{Bytes, before}
 use Rattle.rules.specs.Tree.{Tree, node, spell, path}
 use Rattle.rules.specs.Laws.Paths.{Formed, trail}
 use Rattle.rules.proofs.Laws.Paths.{trail_step, by_parent}

@@ -1,6 +1,6 @@
 -- Byte order of paths: what the parts of the comparison promise each other.
-use Rattle.std.specs.Prelude.{◌≡◌, ◌⊎◌, Bool, List, [], ◌∷◌, ◌++◌, ℕ, ◌≤◌, ◌<◌, ltb, length}
-use Rattle.rules.specs.Octets.{Bytes, if◌then◌else◌, before}
+use Rattle.std.specs.Prelude.{◌≡◌, ◌⊎◌, Bool, List, [], ◌∷◌, ◌++◌, ℕ, ◌≤◌, ◌<◌, ltb, length, if◌then◌else◌}
+use Rattle.rules.specs.Octets.{Bytes, before}
 use Rattle.rules.specs.Blob.{Block}
 use Rattle.rules.specs.Tree.{Tree, node, path}
 use Rattle.rules.specs.Laws.Paths.{Formed, trail}

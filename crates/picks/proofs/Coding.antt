@@ -1,4 +1,5 @@
 -- The codes, node by node.
+use Rattle.std.specs.Prelude.{if◌then◌else◌}
 use mathlib.Core.Path.{◌≡◌, refl, sym, ap, ap₂, ◌∙◌}
 use mathlib.Core.Bool.{Bool, true, false}
 use mathlib.Core.List.{List, [], ◌∷◌}
@@ -8,7 +9,7 @@ use lib.Dec.{eqb, ltb}
 use lib.ListN.{length, get_or}
 use borrow.Author.Tests.{eqb-true, eqb-false, eq-eqb, ne_eqb, lt-ltb, le-ltb}
 use Rattle.rules.specs.Ceilings.{node_ceiling}
-use Rattle.rules.specs.Octets.{if◌then◌else◌, lay}
+use Rattle.rules.specs.Octets.{lay}
 use Rattle.rules.specs.Blob.{Block}
 use Rattle.rules.specs.Lists.{one_of}
 use Rattle.rules.specs.Tree.{Tree, node, frame}

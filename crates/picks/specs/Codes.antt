@@ -1,10 +1,9 @@
 -- What a node inherits on the way down, in one number: outside `/cpus` 0, or 1 at or below a listed node, or 2 at or below an
 -- exclusion; at or below `/cpus` 3 where it is kept, and 4 where it is not.
-use Rattle.std.specs.Prelude.{◌≡◌, refl, Bool, true, false, not, ◌&&◌, ◌||◌, List, eqb, length}
+use Rattle.std.specs.Prelude.{◌≡◌, refl, Bool, true, false, not, ◌&&◌, ◌||◌, List, eqb, length, if◌then◌else◌}
 use Rattle.std.proofs.Common.{sym, ◌∙◌, arith, eqb-true}
 use Rattle.std.proofs.Math.Path.{ap}
 use Prim.Native.Nat.{ℕ, suc, ◌<◌}
-use Rattle.rules.specs.Octets.{if◌then◌else◌}
 use Rattle.rules.specs.Lists.{one_of, any, keep}
 use Rattle.rules.specs.Tree.{Tree, node, below, Frame, frame, numbers}
 use Rattle.rules.specs.Listing.{within}

@@ -1,7 +1,7 @@
 -- One node's turn: its code and its mark, of the words as they stand; and what holds before node i has its turn.
-use Rattle.std.specs.Prelude.{◌≡◌, List, [], ◌∷◌, ℕ, ◌+◌, ◌≤◌, ◌<◌, eqb, ltb, get_or}
+use Rattle.std.specs.Prelude.{◌≡◌, List, [], ◌∷◌, ℕ, ◌+◌, ◌≤◌, ◌<◌, eqb, ltb, get_or, if◌then◌else◌}
 use Rattle.rules.specs.Ceilings.{work_words}
-use Rattle.rules.specs.Octets.{if◌then◌else◌, lay}
+use Rattle.rules.specs.Octets.{lay}
 use Rattle.rules.specs.Blob.{Block}
 use Rattle.rules.specs.Lists.{one_of, any}
 use Rattle.rules.specs.Tree.{Tree, node, below, frame}

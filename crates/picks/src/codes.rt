@@ -1,8 +1,7 @@
 // What a node inherits from its parent, in one number: outside `/cpus` 0, or 1 at or below a listed node, or 2 at or below an
 // exclusion; at or below `/cpus` 3 where it is kept, and 4 where it is not.
-ghost use Rattle.std.specs.Prelude.{◌≡◌, ◌≤◌, ◌<◌, eqb};
+ghost use Rattle.std.specs.Prelude.{◌≡◌, ◌≤◌, ◌<◌, eqb, if◌then◌else◌};
 ghost use Rattle.rules.specs.Ceilings.{node_ceiling};
-ghost use Rattle.rules.specs.Octets.{if◌then◌else◌};
 ghost use Rattle.rules.specs.Blob.{Block, block_of};
 ghost use Rattle.picks.specs.Codes.{taken};
 ghost use Rattle.picks.specs.Turns.{parent_code, code_at};

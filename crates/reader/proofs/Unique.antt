@@ -1,9 +1,10 @@
 -- Two answers that say the same are the same: the meaning of an answer gives it back. So is a refusal that a caller carries inside.
+use Rattle.std.specs.Prelude.{if◌then◌else◌}
 use mathlib.Core.Path.{◌≡◌, refl, sym, ap, ◌∙◌}
 use mathlib.Core.Bool.{true}
 use Prim.Native.Nat.{ℕ}
 use lib.Dec.{eqb, leb}
-use Rattle.rules.specs.Octets.{Bytes, if◌then◌else◌}
+use Rattle.rules.specs.Octets.{Bytes}
 use Rattle.rules.specs.Outcome.{Outcome, gives, refuses}
 use Rattle.rules.specs.Reader.{read}
 use Rattle.reader.specs.declared.Refusal.{Refusal}

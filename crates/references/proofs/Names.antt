@@ -1,4 +1,5 @@
 -- Tables of names: how the walk over one goes on, and that a table of 01's names answers what 01's names do.
+use Rattle.std.specs.Prelude.{if◌then◌else◌}
 use mathlib.Core.Path.{◌≡◌, refl, sym, ap, ◌∙◌}
 use mathlib.Core.Bool.{Bool, true, false, not, ◌&&◌, ◌||◌}
 use mathlib.Core.List.{List, [], ◌∷◌, ◌++◌, map}
@@ -12,7 +13,7 @@ use lib.Dec.{eqb, ltb}
 use lib.ListN.{length, take, drop, drop_of_length-le}
 use lib.Seq.{drop-cons, drop-drop}
 use borrow.Author.Tests.{lt-ltb, le-ltb}
-use Rattle.rules.specs.Octets.{Bytes, if◌then◌else◌, byte_at, part, length_to, nul_in, ascii, same, begins, ends, holds}
+use Rattle.rules.specs.Octets.{Bytes, byte_at, part, length_to, nul_in, ascii, same, begins, ends, holds}
 use Rattle.rules.specs.Events.{string_at}
 use Rattle.rules.specs.Tree.{among}
 use Rattle.rules.specs.References.{reference_names, is_gpio, is_reference, Row, cells_in}

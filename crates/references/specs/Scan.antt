@@ -1,8 +1,8 @@
 -- The scan from any word on, and how its answer is read.
-use Rattle.std.specs.Prelude.{◌≡◌, List, [], ◌∷◌, ℕ, ◌+◌, ◌/◌, ◌%◌, ◌≤◌, eqb, ltb, length}
+use Rattle.std.specs.Prelude.{◌≡◌, List, [], ◌∷◌, ℕ, ◌+◌, ◌/◌, ◌%◌, ◌≤◌, eqb, ltb, length, if◌then◌else◌}
 use Rattle.std.proofs.Math.Option.{Option}
 use Prim.Native.String.{String}
-use Rattle.rules.specs.Octets.{Bytes, if◌then◌else◌}
+use Rattle.rules.specs.Octets.{Bytes}
 use Rattle.rules.specs.Blob.{Block}
 use Rattle.rules.specs.Tree.{node}
 use Rattle.rules.specs.References.{Reference, scan_from}

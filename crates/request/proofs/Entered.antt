@@ -1,4 +1,5 @@
 -- What a line adds to a list of paths: its path closed by NUL, or nothing.
+use Rattle.std.specs.Prelude.{if◌then◌else◌}
 use mathlib.Core.Path.{◌≡◌, refl, ap, ◌∙◌}
 use mathlib.Core.Bool.{Bool, true, false, not}
 use mathlib.Core.List.{[], ◌∷◌, append-nil}
@@ -7,7 +8,7 @@ use native.Mathlib.Omega.{arith}
 use lib.ListN.{length, drop, length-take, length-drop}
 use lib.Seq.{take_all}
 use borrow.Author.Tests.{not-true, not-false}
-use Rattle.rules.specs.Octets.{Bytes, if◌then◌else◌, part, closed}
+use Rattle.rules.specs.Octets.{Bytes, part, closed}
 use Rattle.rules.specs.Program.{line_said, named_by}
 use Rattle.rules.proofs.Laws.Tests.{never}
 use Rattle.request.specs.declared.Said.{Said}

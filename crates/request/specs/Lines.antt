@@ -1,7 +1,7 @@
 -- The line at a place of the input, and that the lines one after the other are those of the definition.
-use Rattle.std.specs.Prelude.{◌≡◌, List, [], ◌∷◌, ℕ, ◌+◌, ◌-◌, ◌≤◌, ◌<◌, ltb, length, drop}
+use Rattle.std.specs.Prelude.{◌≡◌, List, [], ◌∷◌, ℕ, ◌+◌, ◌-◌, ◌≤◌, ◌<◌, ltb, length, drop, if◌then◌else◌}
 use Rattle.std.proofs.Common.{sym, ap, ◌∙◌, subst, arith, ltb-true, ltb-false}
-use Rattle.rules.specs.Octets.{Bytes, if◌then◌else◌, part}
+use Rattle.rules.specs.Octets.{Bytes, part}
 use Rattle.rules.specs.Program.{line_end}
 use Rattle.rules.specs.Program as program
 use Rattle.rules.proofs.Laws.Tokens.{if_by}

@@ -1,7 +1,7 @@
 -- 01, "The filtered copy": which nodes are copied, and the guest. `crate_guest_fdt` of the source.
-use Rattle.std.specs.Prelude.{Bool, true, false, not, ◌&&◌, ◌||◌, List, [], ◌∷◌, ℕ, suc, eqb, length}
+use Rattle.std.specs.Prelude.{Bool, true, false, not, ◌&&◌, ◌||◌, List, [], ◌∷◌, ℕ, suc, eqb, length, if◌then◌else◌}
 use Rattle.std.proofs.Math.Option.{Option, none, some}
-use Rattle.rules.specs.Octets.{Bytes, if◌then◌else◌, number, ascii, same, begins}
+use Rattle.rules.specs.Octets.{Bytes, number, ascii, same, begins}
 use Rattle.rules.specs.Lists.{one_of, any, keep}
 use Rattle.rules.specs.Events.{Event, opens, has, closes}
 use Rattle.rules.specs.Tree.{Node, Tree, node, value_of, Frame, frame, numbers, top, rest}

@@ -1,9 +1,9 @@
 -- 01, "The filtered copy": the derivation, its refusals 40 to 46 in their order with their places, both outputs, and the work space
 -- at return.
-use Rattle.std.specs.Prelude.{Bool, true, false, not, ◌&&◌, ◌||◌, List, [], ◌∷◌, map, ℕ, zero, suc, ◌+◌, min, leb, ltb, length, take, drop}
+use Rattle.std.specs.Prelude.{Bool, true, false, not, ◌&&◌, ◌||◌, List, [], ◌∷◌, map, ℕ, zero, suc, ◌+◌, min, leb, ltb, length, take, drop, if◌then◌else◌}
 use Rattle.std.proofs.Math.Option.{Option, none, some}
 use Rattle.rules.specs.Ceilings.{blob_ceiling, entry_ceiling, path_ceiling, work_words}
-use Rattle.rules.specs.Octets.{Bytes, if◌then◌else◌, put, nul_in, ascii, same, begins}
+use Rattle.rules.specs.Octets.{Bytes, put, nul_in, ascii, same, begins}
 use Rattle.rules.specs.Lists.{any}
 use Rattle.rules.specs.Outcome.{Outcome, gives, Verdict, passes, settled, ◌then◌, first}
 use Rattle.rules.specs.Blob.{missing}

@@ -1,8 +1,8 @@
 -- 01, "The blob, as read": the shape of a structure, refusals 6 to 9 "judged token by token, in that order at one token", and
 -- the events that the tokens say.
-use Rattle.std.specs.Prelude.{Bool, true, false, not, ◌&&◌, List, [], ◌∷◌, ℕ, suc, ◌+◌, eqb, leb, length, take, drop}
+use Rattle.std.specs.Prelude.{Bool, true, false, not, ◌&&◌, List, [], ◌∷◌, ℕ, suc, ◌+◌, eqb, leb, length, take, drop, if◌then◌else◌}
 use Rattle.rules.specs.Ceilings.{node_ceiling, open_ceiling}
-use Rattle.rules.specs.Octets.{Bytes, if◌then◌else◌, part, nul_in, has_nul}
+use Rattle.rules.specs.Octets.{Bytes, part, nul_in, has_nul}
 use Rattle.rules.specs.Outcome.{Verdict, refuses, passes}
 use Rattle.rules.specs.Names.{node_name_reads, property_name_reads}
 use Rattle.rules.specs.Blob.{Block}

@@ -11,12 +11,6 @@ Bytes = List ℕ
 abbrev pub AreBytes : Bytes → Type 0
 AreBytes s = (i : ℕ) → get_or s i 0 < 256
 
-infix 5 if◌then◌else◌
--- the first where the test passes, the second where it fails
-abbrev pub if◌then◌else◌ {ℓ} : {A : Type ℓ} → Bool → A → A → A
-if◌then◌else◌ true a b = a
-if◌then◌else◌ false a b = b
-
 -- ---- numbers
 
 abbrev pub byte_at : Bytes → ℕ → ℕ

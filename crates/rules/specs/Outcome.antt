@@ -1,6 +1,5 @@
 -- What a call answers: something, or a refusal with its number and place.
-use Rattle.std.specs.Prelude.{Bool, List, [], ◌∷◌, ℕ}
-use Rattle.rules.specs.Octets.{if◌then◌else◌}
+use Rattle.std.specs.Prelude.{Bool, List, [], ◌∷◌, ℕ, if◌then◌else◌}
 
 pub data Outcome (A : Type 0) : Type 0 where
   gives : A → Outcome A

@@ -1,9 +1,9 @@
 -- 01, "Ceilings" and "Trees on the bench": the command program. Its request text becomes lists, or a refusal 41; its answer is
 -- printed, and the guest written.
-use Rattle.std.specs.Prelude.{Bool, true, false, not, ◌&&◌, List, [], ◌∷◌, ◌++◌, ℕ, zero, suc, ◌+◌, ◌-◌, ◌*◌, ◌/◌, ◌%◌, ◌^◌, eqb, ltb, length, take, drop}
+use Rattle.std.specs.Prelude.{Bool, true, false, not, ◌&&◌, List, [], ◌∷◌, ◌++◌, ℕ, zero, suc, ◌+◌, ◌-◌, ◌*◌, ◌/◌, ◌%◌, ◌^◌, eqb, ltb, length, take, drop, if◌then◌else◌}
 use Rattle.std.proofs.Math.Option.{Option, none, some}
 use Rattle.rules.specs.Ceilings.{program_ceiling, work_words}
-use Rattle.rules.specs.Octets.{Bytes, if◌then◌else◌, length_to, has_nul, closed, ascii, begins}
+use Rattle.rules.specs.Octets.{Bytes, length_to, has_nul, closed, ascii, begins}
 use Rattle.rules.specs.Lists.{every}
 use Rattle.rules.specs.Names.{within}
 use Rattle.rules.specs.Outcome.{Outcome, gives, refuses, Verdict, passes, ◌then◌, first}

@@ -1,8 +1,8 @@
 -- 01, "The blob, as read": what the reader answers, and what it leaves in its work space.
-use Rattle.std.specs.Prelude.{List, [], ◌∷◌, ◌++◌, ℕ, ◌-◌, ltb, length}
+use Rattle.std.specs.Prelude.{List, [], ◌∷◌, ◌++◌, ℕ, ◌-◌, ltb, length, if◌then◌else◌}
 use Rattle.std.proofs.Math.Option.{none, some}
 use Rattle.rules.specs.Ceilings.{work_words}
-use Rattle.rules.specs.Octets.{Bytes, if◌then◌else◌, zeros, put}
+use Rattle.rules.specs.Octets.{Bytes, zeros, put}
 use Rattle.rules.specs.Outcome.{Outcome, Verdict, gives, refuses, ◌then◌, first}
 use Rattle.rules.specs.Blob.{header_judged, block_in}
 use Rattle.rules.specs.Events.{Event, shape_judged, events_in}

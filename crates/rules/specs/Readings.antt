@@ -1,8 +1,8 @@
 -- How 01 is read where it leaves room, and both sides of its limits: cases of each section in one table. The readings are told in
 -- docs/DECISIONS.md; that each case holds is proved in proofs/Readings.antt, by computation.
-use Rattle.std.specs.Prelude.{true, false, List, [], ◌∷◌, ◌++◌, map, ℕ, zero, suc, ◌+◌, ◌-◌, length, replicate}
+use Rattle.std.specs.Prelude.{true, false, List, [], ◌∷◌, ◌++◌, map, ℕ, zero, suc, ◌+◌, ◌-◌, length, replicate, if◌then◌else◌}
 use Prim.Native.String.{String}
-use Rattle.rules.specs.Octets.{Bytes, if◌then◌else◌, be32, be64, words32, zeros, put, ascii, closed}
+use Rattle.rules.specs.Octets.{Bytes, be32, be64, words32, zeros, put, ascii, closed}
 use Rattle.rules.specs.Outcome.{Outcome, gives, refuses, Verdict}
 use Rattle.rules.specs.Reservations.{Entry, overlapping}
 use Rattle.rules.specs.Writer.{State, begin_bytes, end_bytes, property_bytes, header_bytes, name_offset, start, begin_node, finish}

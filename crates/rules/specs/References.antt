@@ -1,10 +1,10 @@
 -- 01, "References and the list": which properties hold references, how many cells follow one, and the scan. `device.rs` of the
 -- source: `is_phandle_property`, `get_cells_count_for_property`, `parse_phandle_property_with_cells`.
-use Rattle.std.specs.Prelude.{Bool, true, false, not, ◌&&◌, ◌||◌, List, [], ◌∷◌, ◌++◌, map, ℕ, zero, suc, ◌+◌, ◌*◌, ◌/◌, ◌%◌, eqb, ltb, length}
+use Rattle.std.specs.Prelude.{Bool, true, false, not, ◌&&◌, ◌||◌, List, [], ◌∷◌, ◌++◌, map, ℕ, zero, suc, ◌+◌, ◌*◌, ◌/◌, ◌%◌, eqb, ltb, length, if◌then◌else◌}
 use Rattle.std.proofs.Math.Option
 use Rattle.std.proofs.Math.Option.{Option, none, some}
 use Prim.Native.String.{String}
-use Rattle.rules.specs.Octets.{Bytes, if◌then◌else◌, word_at, ascii, same, begins, ends, holds}
+use Rattle.rules.specs.Octets.{Bytes, word_at, ascii, same, begins, ends, holds}
 use Rattle.rules.specs.Events.{Property}
 use Rattle.rules.specs.Tree.{Tree, node, value_of, phandle_of, among}
 

@@ -1,6 +1,6 @@
 -- 01, "The blob, as read": the tokens of a structure block (DTSpec 5.4), with their places in it.
-use Rattle.std.specs.Prelude.{List, [], ◌∷◌, ℕ, zero, suc, ◌+◌, eqb, leb, length, drop}
-use Rattle.rules.specs.Octets.{Bytes, if◌then◌else◌, word_at, nul_in, padded}
+use Rattle.std.specs.Prelude.{List, [], ◌∷◌, ℕ, zero, suc, ◌+◌, eqb, leb, length, drop, if◌then◌else◌}
+use Rattle.rules.specs.Octets.{Bytes, word_at, nul_in, padded}
 use Rattle.rules.specs.declared.Token.{Token}
 use Rattle.rules.specs.declared.Token.TheVariants.{Item, End, Cut}
 use Rattle.rules.specs.declared.Kind.{Kind}

@@ -1,8 +1,8 @@
 -- 01, "The blob, as read": the nodes in blob order, refusals 10, 11 and 12, each "a pass of its own"; node, path and below.
-use Rattle.std.specs.Prelude.{Bool, true, false, not, ◌&&◌, ◌||◌, List, [], ◌∷◌, ◌++◌, ℕ, zero, suc, eqb, length, get_or}
+use Rattle.std.specs.Prelude.{Bool, true, false, not, ◌&&◌, ◌||◌, List, [], ◌∷◌, ◌++◌, ℕ, zero, suc, eqb, length, get_or, if◌then◌else◌}
 use Rattle.std.proofs.Math.Option.{Option, none, some, map}
 use Prim.Native.String.{String}
-use Rattle.rules.specs.Octets.{Bytes, if◌then◌else◌, word_at, ascii, same}
+use Rattle.rules.specs.Octets.{Bytes, word_at, ascii, same}
 use Rattle.rules.specs.Outcome.{Verdict, passes, ◌then◌, first}
 use Rattle.rules.specs.Lists.{one_of}
 use Rattle.rules.specs.Events.{Property, Event, opens, has, closes}

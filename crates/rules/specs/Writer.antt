@@ -1,8 +1,8 @@
 -- 01, "The writer": for each call its tests in their order, the state handed back, and what each lent buffer holds after it.
 -- `FdtWriter` of the source. "Place is 0 throughout."
-use Rattle.std.specs.Prelude.{Bool, true, false, not, ◌&&◌, ◌||◌, List, [], ◌∷◌, ◌++◌, ℕ, suc, ◌+◌, ◌-◌, ◌%◌, min, eqb, ltb, leb, length, take}
+use Rattle.std.specs.Prelude.{Bool, true, false, not, ◌&&◌, ◌||◌, List, [], ◌∷◌, ◌++◌, ℕ, suc, ◌+◌, ◌-◌, ◌%◌, min, eqb, ltb, leb, length, take, if◌then◌else◌}
 use Rattle.rules.specs.Ceilings.{blob_ceiling, open_ceiling, reservation_ceiling}
-use Rattle.rules.specs.Octets.{Bytes, if◌then◌else◌, be32, words32, zeros, filled, put, has_nul, closed, ascii, begins}
+use Rattle.rules.specs.Octets.{Bytes, be32, words32, zeros, filled, put, has_nul, closed, ascii, begins}
 use Rattle.rules.specs.Names.{node_name_valid, property_name_valid}
 use Rattle.rules.specs.Lists.{one_of}
 use Rattle.rules.specs.Outcome.{Verdict, settled, Test, first}

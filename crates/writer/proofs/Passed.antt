@@ -1,4 +1,5 @@
 -- What is known of a state and its buffers once a call's tests have passed, and what a call then answers and leaves.
+use Rattle.std.specs.Prelude.{if◌then◌else◌}
 use mathlib.Core.Path.{◌≡◌, refl, ap, ◌∙◌}
 use mathlib.Core.Bool.{Bool, true, false, not, ◌||◌}
 use mathlib.Core.List.{List, [], ◌∷◌, ◌++◌}
@@ -9,7 +10,7 @@ use lib.ListN.{length, length-append}
 use lib.Seq.{length-take-le}
 use borrow.Author.Tests.{ltb-false, leb-false, eqb-true, eqb-false, not-false}
 use Rattle.rules.specs.Ceilings.{blob_ceiling, open_ceiling}
-use Rattle.rules.specs.Octets.{Bytes, if◌then◌else◌, be32, put, lay, has_nul}
+use Rattle.rules.specs.Octets.{Bytes, be32, put, lay, has_nul}
 use Rattle.rules.specs.Names.{node_name_valid}
 use Rattle.rules.specs.Outcome.{refuses, Verdict, passes, settled, Test, first}
 use Rattle.rules.specs.Writer.{State, answer, room, no_room, wrong_state, test, begin_bytes, end_bytes, begin_judged, end_judged, finish_judged, finish_data, total, header_of, strings_of}

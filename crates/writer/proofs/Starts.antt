@@ -1,4 +1,5 @@
 -- What a start answers and leaves.
+use Rattle.std.specs.Prelude.{if◌then◌else◌}
 use mathlib.Core.Path.{◌≡◌, refl}
 use mathlib.Core.Bool.{Bool, true, false}
 use mathlib.Core.List.{List, [], ◌∷◌}
@@ -7,7 +8,7 @@ use native.Mathlib.Omega.{arith}
 use lib.Dec.{ltb}
 use lib.ListN.{length, take}
 use Rattle.rules.specs.Ceilings.{reservation_ceiling}
-use Rattle.rules.specs.Octets.{Bytes, if◌then◌else◌, be32, be64, zeros, lay}
+use Rattle.rules.specs.Octets.{Bytes, be32, be64, zeros, lay}
 use Rattle.rules.specs.Outcome.{refuses, passes}
 use Rattle.rules.specs.Reservations.{Entry, entry_bytes, block, any_invalid, overlapping, neighbours, sorted_from}
 use Rattle.rules.specs.Writer.{State, fresh, room, test, no_room, start_bytes, start_judged, start, start_data}

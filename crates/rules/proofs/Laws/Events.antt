@@ -1,9 +1,9 @@
 -- The laws of the walk over tokens and of the events that they say: a step by how many nodes are open, and one turn for each token.
-use Rattle.std.specs.Prelude.{◌≡◌, refl, Bool, true, not, List, [], ◌∷◌, ℕ, ◌+◌, ◌≤◌, ◌<◌, eqb, leb, length}
+use Rattle.std.specs.Prelude.{◌≡◌, refl, Bool, true, not, List, [], ◌∷◌, ℕ, ◌+◌, ◌≤◌, ◌<◌, eqb, leb, length, if◌then◌else◌}
 use Rattle.std.proofs.Math.Path.{ap}
 use Rattle.std.proofs.Common.{arith}
 use Rattle.rules.specs.Ceilings.{open_ceiling, node_ceiling}
-use Rattle.rules.specs.Octets.{Bytes, if◌then◌else◌}
+use Rattle.rules.specs.Octets.{Bytes}
 use Rattle.rules.specs.Names.{node_name_reads}
 use Rattle.rules.specs.Outcome.{Verdict}
 use Rattle.rules.specs.Blob.{Block}

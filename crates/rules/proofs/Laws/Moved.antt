@@ -1,9 +1,9 @@
 -- Events that are the same but for their places: the same is said without places, their nodes have the same names and properties, and
 -- where one of two such trees passes 10 to 12 the other does.
-use Rattle.std.specs.Prelude.{◌≡◌, refl, false, List, [], ◌∷◌, map, ℕ, suc}
+use Rattle.std.specs.Prelude.{◌≡◌, refl, false, List, [], ◌∷◌, map, ℕ, suc, if◌then◌else◌}
 use Rattle.std.proofs.Common.{sym, ap, ◌∙◌}
 use Rattle.std.proofs.Math.Option.{Option, none, some}
-use Rattle.rules.specs.Octets.{Bytes, if◌then◌else◌, word_at}
+use Rattle.rules.specs.Octets.{Bytes, word_at}
 use Rattle.rules.specs.Outcome.{passes, ◌then◌}
 use Rattle.rules.specs.Events.{Property, Event, opens, has, closes}
 use Rattle.rules.specs.Tree.{Node, Tree, props_of, rest, nodes_from, nodes_of, sibling, named, doubled_props, doubled_from, doubled_judged, is_phandle, words_from, words_judged, phandle_prop, shared_from, shared_judged}

@@ -1,8 +1,8 @@
 -- The equations of the passes 10 to 12, a node or a property at a time.
-use Rattle.std.specs.Prelude.{◌≡◌, refl, Bool, true, false, not, ◌&&◌, List, [], ◌∷◌, ℕ, length, eqb}
+use Rattle.std.specs.Prelude.{◌≡◌, refl, Bool, true, false, not, ◌&&◌, List, [], ◌∷◌, ℕ, length, eqb, if◌then◌else◌}
 use Rattle.std.proofs.Common.{sym, ◌∙◌}
 use Rattle.std.proofs.Math.Option.{Option, none, some}
-use Rattle.rules.specs.Octets.{if◌then◌else◌, word_at}
+use Rattle.rules.specs.Octets.{word_at}
 use Rattle.rules.specs.Lists.{one_of}
 use Rattle.rules.specs.Outcome.{passes, ◌then◌, first}
 use Rattle.rules.specs.Events.{Property}

@@ -1,6 +1,6 @@
 -- The place of a refusal is an offset of the blob, or its end; from 6 on, one of the structure block, or its end.
 use Rattle.std.proofs.Math.Path.{◌≡◌, refl, subst}
-use Rattle.std.specs.Prelude.{Bool, true, false, ◌&&◌, ◌||◌, eqb, length, drop}
+use Rattle.std.specs.Prelude.{Bool, true, false, ◌&&◌, ◌||◌, eqb, length, drop, if◌then◌else◌}
 use Rattle.std.proofs.Math.Bool.{not}
 use mathlib.Core.List.{List, [], ◌∷◌}
 use Rattle.std.proofs.Math.Option.{Option, none, some}
@@ -8,7 +8,7 @@ use Prim.Native.Nat.{ℕ, zero, suc, ◌+◌, ◌≤◌}
 use Rattle.std.proofs.Common.{add-zero, arith, length-take}
 use Rattle.std.proofs.Math.Dec.{ltb}
 use Rattle.rules.specs.Ceilings.{blob_ceiling}
-use Rattle.rules.specs.Octets.{Bytes, if◌then◌else◌, word_at}
+use Rattle.rules.specs.Octets.{Bytes, word_at}
 use Rattle.rules.specs.Outcome.{Verdict, gives, refuses, passes, ◌then◌, Test, first}
 use Rattle.rules.specs.Blob.{Header, header_in, misplaced, Block, header_judged, block_in}
 use Rattle.rules.specs.Tokens.{Placed, token_at, following, tokens_from, tokens}

@@ -1,10 +1,10 @@
 -- The laws of the command program's texts: lines from a place on without their fuel, decimal numbers read and printed, and lists
 -- that are laid into a buffer part by part.
-use Rattle.std.specs.Prelude.{◌≡◌, refl, true, false, ◌&&◌, List, [], ◌∷◌, ◌++◌, ℕ, zero, suc, ◌+◌, ◌-◌, ◌*◌, ◌/◌, ◌%◌, ◌^◌, ◌≤◌, ◌<◌, leb, ltb, length, take, drop}
+use Rattle.std.specs.Prelude.{◌≡◌, refl, true, false, ◌&&◌, List, [], ◌∷◌, ◌++◌, ℕ, zero, suc, ◌+◌, ◌-◌, ◌*◌, ◌/◌, ◌%◌, ◌^◌, ◌≤◌, ◌<◌, leb, ltb, length, take, drop, if◌then◌else◌}
 use Rattle.std.proofs.Common.{sym, ap, ◌∙◌, append_assoc, append-nil, add_assoc, zero-add, arith, add-one, length-append, length-drop, drop_of_length-le, drop-drop}
 use Rattle.std.proofs.Math.Seq.{drop-cons}
 use borrow.Author.Tests.{eq-eqb, ne_eqb, lt-leb, le-leb, ltb-false, lt-ltb, le-ltb}
-use Rattle.rules.specs.Octets.{Bytes, if◌then◌else◌, byte_at, part, lay}
+use Rattle.rules.specs.Octets.{Bytes, byte_at, part, lay}
 use Rattle.rules.specs.Lists.{every}
 use Rattle.rules.specs.Outcome.{passes, refuses}
 use Rattle.rules.specs.Program.{line_end, Line, lines_from, lines_of, Said, configures, excludes, names, other, decimal_after, digit, decimal_said, line_said, is_other, lines_judged, configured_by, excluded_by, named_by, digits_from, decimal}

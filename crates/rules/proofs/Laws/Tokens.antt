@@ -1,10 +1,10 @@
 -- The laws of tokens: what a token says of the bytes at its place, that an item ends further on and inside the block, and the
 -- tokens from a place on without their fuel.
-use Rattle.std.specs.Prelude.{◌≡◌, refl, Bool, true, false, List, [], ◌∷◌, eqb, leb, length, drop}
+use Rattle.std.specs.Prelude.{◌≡◌, refl, Bool, true, false, List, [], ◌∷◌, eqb, leb, length, drop, if◌then◌else◌}
 use Rattle.std.proofs.Common.{sym, ap, ◌∙◌, subst, arith}
 use Prim.Native.Nat.{ℕ, zero, suc, ◌+◌, ◌≤◌, ◌<◌}
 use borrow.Author.Tests.{leb-true, eqb-true}
-use Rattle.rules.specs.Octets.{Bytes, if◌then◌else◌, word_at, nul_in, padded}
+use Rattle.rules.specs.Octets.{Bytes, word_at, nul_in, padded}
 use Rattle.rules.specs.Tokens.{begin_at, prop_at, tagged, token_at, Placed, following, tokens_from, tokens}
 use Rattle.rules.specs.declared.Token.{Token}
 use Rattle.rules.specs.declared.Token.TheVariants.{Item, End, Cut}

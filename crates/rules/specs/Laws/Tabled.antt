@@ -1,10 +1,10 @@
 -- The tree that a node table and its structure say, node by node: what code over the table promises. Of the table of a blob that
 -- is accepted it is the tree read (proofs/Laws/TabledRead.antt).
-use Rattle.std.specs.Prelude.{List, [], map, eqb, get_or}
+use Rattle.std.specs.Prelude.{List, [], map, eqb, get_or, if◌then◌else◌}
 use Rattle.std.proofs.Math.Option.{Option, none, some}
 use Prim.Native.Nat.{ℕ, ◌+◌, ◌-◌, ◌*◌}
 use Prim.Native.String.{String}
-use Rattle.rules.specs.Octets.{Bytes, if◌then◌else◌, ascii}
+use Rattle.rules.specs.Octets.{Bytes, ascii}
 use Rattle.rules.specs.Blob.{Block, block_of}
 use Rattle.rules.specs.Tokens.{token_at}
 use Rattle.rules.specs.Events.{Property, string_at}

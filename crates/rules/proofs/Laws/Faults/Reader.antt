@@ -1,8 +1,8 @@
 -- What the reader refuses by 10, 11 and 12, and what it accepts.
-use Rattle.std.specs.Prelude.{◌≡◌, refl, Bool, true, false, not, List, [], ◌∷◌, ℕ, ◌+◌, ◌≤◌, eqb, leb, length}
+use Rattle.std.specs.Prelude.{◌≡◌, refl, Bool, true, false, not, List, [], ◌∷◌, ℕ, ◌+◌, ◌≤◌, eqb, leb, length, if◌then◌else◌}
 use Rattle.std.proofs.Common.{subst, inl, inr, arith}
 use Rattle.rules.specs.Ceilings.{open_ceiling, node_ceiling}
-use Rattle.rules.specs.Octets.{Bytes, if◌then◌else◌}
+use Rattle.rules.specs.Octets.{Bytes}
 use Rattle.rules.specs.Names.{node_name_reads}
 use Rattle.rules.specs.Outcome.{Verdict, refuses, passes, ◌then◌}
 use Rattle.rules.specs.Blob.{Block, block_in, header_judged}

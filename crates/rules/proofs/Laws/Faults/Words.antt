@@ -1,7 +1,7 @@
 -- 11: "`phandle`, `linux,phandle` or one of the 14 `#...-cells` names in `build_phandle_map` isn't 4 bytes, or a node's two phandle
 -- names disagree".
 use Rattle.std.proofs.Math.Path.{◌≡◌, ap}
-use Rattle.std.specs.Prelude.{refl, ◌⊎◌, Bool, true, false, not, ◌&&◌, ◌||◌, List, [], ◌∷◌, ◌++◌, ℕ, zero, suc, ◌<◌, eqb, get_or, drop}
+use Rattle.std.specs.Prelude.{refl, ◌⊎◌, Bool, true, false, not, ◌&&◌, ◌||◌, List, [], ◌∷◌, ◌++◌, ℕ, zero, suc, ◌<◌, eqb, get_or, drop, if◌then◌else◌}
 use Rattle.std.proofs.Common.{sym, ◌∙◌, inl, inr, drop_of_length-le, drop-cons, eqb-true, ne_eqb}
 use Rattle.std.proofs.Math.Option.{Option, none, some}
 use mathlib.Core.List.Memᴰ
@@ -9,7 +9,7 @@ use Prim.Native.String.{String}
 use native.Mathlib.Omega.{arith}
 use Rattle.std.proofs.Math.ListN.{length}
 use Rattle.std.proofs.lemmas.Bool.{eqb-false, not-true}
-use Rattle.rules.specs.Octets.{Bytes, if◌then◌else◌, word_at, ascii, same}
+use Rattle.rules.specs.Octets.{Bytes, word_at, ascii, same}
 use Rattle.rules.specs.Outcome.{Verdict, passes, ◌then◌, first}
 use Rattle.rules.specs.Events.{Property}
 use Rattle.rules.specs.Tree.{Tree, node, nowhere, among, phandle_names, cells_names, is_phandle, read_name, differs, words_from, words_judged}

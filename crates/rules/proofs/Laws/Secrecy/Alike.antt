@@ -1,10 +1,10 @@
 -- Properties, nodes, trees and events that are the same but for values that are not open: what the reader judges of them, and what
 -- it takes from them, is the same.
-use Rattle.std.specs.Prelude.{◌≡◌, refl, Bool, true, false, List, [], ◌∷◌, map, ℕ, zero, suc, ◌+◌, length, ◌||◌}
+use Rattle.std.specs.Prelude.{◌≡◌, refl, Bool, true, false, List, [], ◌∷◌, map, ℕ, zero, suc, ◌+◌, length, ◌||◌, if◌then◌else◌}
 use Rattle.std.proofs.Common.{sym, ap, ap₂, ◌∙◌, subst, arith}
 use Rattle.std.proofs.Math.Option
 use Rattle.std.proofs.Math.Option.{Option, none, some}
-use Rattle.rules.specs.Octets.{Bytes, if◌then◌else◌, word_at, same}
+use Rattle.rules.specs.Octets.{Bytes, word_at, same}
 use Rattle.rules.specs.Outcome.{◌then◌}
 use Rattle.rules.specs.Events.{Property, Event, opens, has, closes}
 use Rattle.rules.specs.Tree.{Node, Tree, node, props_of, top, rest, nodes_from, nodes_of, value_of, sibling, named, doubled_props, doubled_from, doubled_judged, among, cells_names, is_phandle, read_name, words_from, words_judged, phandle_prop, phandle_of, shared_from, shared_judged}
