@@ -18,7 +18,7 @@ use paths::lookup::node_at;
 use references::table::Node;
 
 // How many nodes are configured, or the place of the first path that names no node or repeats, which is refusal 42.
-#[derive(Drop)]
+#[derive(Clone, Copy)]
 pub enum Named {
     Nodes(usize),
     Refused { at: usize },

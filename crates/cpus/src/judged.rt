@@ -12,7 +12,7 @@ use crate::register::{Register, reg_at};
 use references::table::cell;
 
 // Whether CPUs and ids may be used, or the place of the first fault.
-#[derive(Drop)]
+#[derive(Clone, Copy)]
 pub enum Judged {
     Passes,
     Refused { at: usize },

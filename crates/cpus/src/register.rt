@@ -10,7 +10,7 @@ use references::table::begin_of;
 use tokens::Property;
 
 // A number, or nothing where `reg` is missing or has neither 4 nor 8 bytes.
-#[derive(Drop)]
+#[derive(Clone, Copy)]
 pub enum Register {
     Number(u64),
     Missing,

@@ -12,7 +12,7 @@ use asked::Named;
 use cpus::judged::{cpus_judged, ids_judged};
 
 // How many nodes are configured, or why the request is refused.
-#[derive(Drop)]
+#[derive(Clone, Copy)]
 pub enum Checked {
     Nodes(usize),
     Refused(Refusal),
@@ -60,7 +60,7 @@ pub fn request(
 ) -> Checked
     requires count_le_node_ceiling { count ≤ node_ceiling }
     requires entry_ceiling_in_bounds { entry_ceiling ≤ length conf.old }
-    ensures { Checks (tree_of place structure.now strings.now work.now count) (record { configured = configured.entry.now; excluded = excluded.now; ids = ids.now }) conf.old conf.new result }
+    ensures { Checks (tree_of place structure.now strings.now work.now count) (record { configured = configured.now; excluded = excluded.now; ids = ids.now }) conf.old conf.new result }
 {
     if let given::Judged::Refused { at } = given::lists_judged(configured, excluded, ids) {
         return Checked::Refused(Refusal::Lists { at });

@@ -41,7 +41,7 @@ pub enum Refusal {
 }
 
 // How many paths are listed, and the bytes of list and guest; or why nothing is derived.
-#[derive(Drop)]
+#[derive(Clone, Copy)]
 pub enum Answer {
     Derived {
         paths: usize,
@@ -73,7 +73,7 @@ fn accepted(
     guest: &mut [u8],
 ) -> Answer
     requires { HostRead host.now work.old count }
-    ensures { Accepts host.now (record { configured = configured.entry.now; excluded = excluded.now; ids = ids.now }) work.old work.new list.old list.new guest.old guest.new result }
+    ensures { Accepts host.now (record { configured = configured.now; excluded = excluded.now; ids = ids.now }) work.old work.new list.old list.new guest.old guest.new result }
 {
     let place = octets::word(host, 8) as usize;
     let structure = octets::block(host, 8, 36);
@@ -120,9 +120,9 @@ pub fn derive(
     list: &mut [u8],
     guest: &mut [u8],
 ) -> Answer
-    ensures result_value { meaning result ≡ derive edition1 host.now (record { configured = configured.entry.now; excluded = excluded.now; ids = ids.now }) (length work.old) (length list.old) (length guest.old) }
-    ensures list_after { list.new ≡ derive_list edition1 host.now (record { configured = configured.entry.now; excluded = excluded.now; ids = ids.now }) (length work.old) (length guest.old) list.old }
-    ensures guest_after { guest.new ≡ derive_guest edition1 host.now (record { configured = configured.entry.now; excluded = excluded.now; ids = ids.now }) (length work.old) (length list.old) guest.old }
+    ensures result_value { meaning result ≡ derive edition1 host.now (record { configured = configured.now; excluded = excluded.now; ids = ids.now }) (length work.old) (length list.old) (length guest.old) }
+    ensures list_after { list.new ≡ derive_list edition1 host.now (record { configured = configured.now; excluded = excluded.now; ids = ids.now }) (length work.old) (length guest.old) list.old }
+    ensures guest_after { guest.new ≡ derive_guest edition1 host.now (record { configured = configured.now; excluded = excluded.now; ids = ids.now }) (length work.old) (length list.old) guest.old }
     ensures work_after { work.new ≡ derive_work work.old }
 {
     match reader::read(host, work) {

@@ -64,7 +64,7 @@ pub fn written(
 ) -> Answer
     requires asked { Asked (block_of place structure.now strings.now) work.old count conf.now }
     requires whole { Whole (block_of place structure.now strings.now) work.old count }
-    ensures { Writes (block_of place structure.now strings.now) count (record { conf = conf.entry.now; excl = excl.now; ids = ids.now }) work.old work.new list.old list.new guest.old guest.new result }
+    ensures { Writes (block_of place structure.now strings.now) count (record { conf = conf.now; excl = excl.now; ids = ids.now }) work.old work.new list.old list.new guest.old guest.new result }
 {
     let n = marked(structure, strings, place, work, count, conf, excl, ids);
     let size = guest::measure(structure, strings, work);

@@ -9,7 +9,7 @@ use crate::Refusal;
 use asked::Named;
 
 // How many nodes are configured, or why the lists are refused.
-#[derive(Drop)]
+#[derive(Clone, Copy)]
 pub enum Checked {
     Nodes(usize),
     Refused(Refusal),

@@ -18,7 +18,7 @@ use rules::{ENTRY_CEILING, WORK_WORDS};
 use written::written;
 
 // Why nothing is listed, in the order in which it is judged.
-#[derive(Drop)]
+#[derive(Clone, Copy)]
 pub enum Refusal {
     // 40: the work space has fewer than 16,384 words.
     NoSpace,
@@ -34,7 +34,7 @@ pub enum Refusal {
 }
 
 // How many paths are listed, and the bytes of the list; or why nothing is listed.
-#[derive(Drop)]
+#[derive(Clone, Copy)]
 pub enum Answer {
     Listed { paths: usize, list: usize },
     Refused(Refusal),

@@ -16,7 +16,7 @@ use props::doubled_props;
 use rules::{Kind, NODE_WORDS, Token};
 
 // What a pass over the tokens finds.
-#[derive(Drop)]
+#[derive(Clone, Copy)]
 pub enum Found {
     // No token is at fault.
     Nothing,

@@ -13,14 +13,14 @@ use rules::WORK_WORDS;
 use tokens::Property;
 
 // The first of some properties whose name is in a chunk: how many stand before it, and where it stands.
-#[derive(Drop)]
+#[derive(Clone, Copy)]
 pub enum Hit {
     Here { index: usize, at: usize },
     Missing,
 }
 
 // What a chunk of properties comes to.
-#[derive(Drop)]
+#[derive(Clone, Copy)]
 pub enum Built {
     // This one has the name of one before it.
     Twice(usize),

@@ -12,7 +12,7 @@ pub const CHUNK_START: usize = NODE_WORDS * NODE_CEILING;
 pub const CHUNK_ROOM: usize = WORK_WORDS - CHUNK_START;
 
 // Whether a name is in the chunk, or where it would stand.
-#[derive(Drop)]
+#[derive(Clone, Copy)]
 pub enum Spot {
     Taken,
     Free(usize),

@@ -11,7 +11,7 @@ use rules::{ENTRY_CEILING, PATH_CEILING};
 
 // What stands at a place of a list: a path of `len` bytes, whether a NUL closes it, and where the next entry begins; or
 // nothing more.
-#[derive(Drop)]
+#[derive(Clone, Copy)]
 pub enum Entry {
     Path {
         len: usize,
@@ -22,7 +22,7 @@ pub enum Entry {
 }
 
 // Whether lists may be used, or the place of the first fault, which is refusal 41.
-#[derive(Drop)]
+#[derive(Clone, Copy)]
 pub enum Judged {
     Passes,
     Refused { at: usize },
@@ -89,7 +89,7 @@ pub fn paths_judged(list: &[u8]) -> Judged
 // Judges the lists of a request: the configured paths, then the excluded ones, then how many ids there are. Passes, or
 // Refused: `at` is the offset of the earliest path at fault in the first list that has one, and 64 for more than 64 ids.
 pub fn lists_judged(configured: &[u8], excluded: &[u8], ids: &[u64]) -> Judged
-    ensures { meaning result ≡ lists_judged (record { configured = configured.entry.now; excluded = excluded.now; ids = ids.now }) }
+    ensures { meaning result ≡ lists_judged (record { configured = configured.now; excluded = excluded.now; ids = ids.now }) }
 {
     if let Judged::Refused { at } = paths_judged(configured) {
         return Judged::Refused { at };

@@ -12,7 +12,7 @@ use rules::{Kind, STACK_AT};
 
 // The bytes that the copy takes so far in its two blocks, how many copied properties there were, and how many words of the
 // table of names are in use.
-#[derive(Drop)]
+#[derive(Clone, Copy)]
 pub struct Sum {
     pub structure: usize,
     pub strings: usize,

@@ -11,7 +11,7 @@ ghost use Rattle.header.specs.Header.{mistotalled, misversioned, Heads};
 use rules::{BLOB_CEILING, FDT_HEADER_SIZE, FDT_LAST_COMP_VERSION, FDT_MAGIC, FDT_VERSION};
 
 // Where the structure block and the strings block stand.
-#[derive(Drop)]
+#[derive(Clone, Copy)]
 pub struct Parts {
     pub structure: usize,
     pub structure_size: usize,
@@ -20,7 +20,7 @@ pub struct Parts {
 }
 
 // Why a header is refused, in the order in which it is judged.
-#[derive(Drop)]
+#[derive(Clone, Copy)]
 pub enum Refusal {
     // 1: fewer than 40 bytes are lent.
     Short,
@@ -35,7 +35,7 @@ pub enum Refusal {
 }
 
 // Where the blocks stand, or why the header is refused.
-#[derive(Drop)]
+#[derive(Clone, Copy)]
 pub enum Head {
     Good(Parts),
     Bad(Refusal),

@@ -13,7 +13,7 @@ ghost use Rattle.judge.specs.Judged.{verdict_of, place_of, placed, phandle_place
 use rules::{BLOB_CEILING, OPEN_CEILING};
 
 // Why a call is refused: 20 to 34, in this order. The writer passes it on under its own name.
-#[derive(Drop)]
+#[derive(Clone, Copy)]
 pub enum Error {
     // Properties may not be added before beginning a node.
     PropertyBeforeBeginNode,
@@ -84,14 +84,14 @@ pub struct State {
 }
 
 // What the tests of a call come to.
-#[derive(Drop)]
+#[derive(Clone, Copy)]
 pub enum Judged {
     Passed,
     No(Error),
 }
 
 // What the tests of a property come to: where its name stands in the strings block or goes, or why not.
-#[derive(Drop)]
+#[derive(Clone, Copy)]
 pub enum Place {
     At(usize),
     Not(Error),

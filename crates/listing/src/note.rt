@@ -6,7 +6,7 @@ ghost use Rattle.listing.specs.State.{entered, Piled, Stacks};
 use rules::{LIST_AT, MARKS_AT, STACK_AT};
 
 // How many nodes are listed, and how many are on the stack.
-#[derive(Drop)]
+#[derive(Clone, Copy)]
 pub struct Ends {
     pub list: usize,
     pub stack: usize,

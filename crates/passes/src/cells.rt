@@ -9,7 +9,7 @@ use doubled::Found;
 use rules::{Kind, Token};
 
 // What is known of the node whose properties are read.
-#[derive(Drop)]
+#[derive(Clone, Copy)]
 pub enum Seen {
     // No node's properties are read here.
     Outside,
@@ -20,7 +20,7 @@ pub enum Seen {
 }
 
 // What a token does: what is known behind it, or that it is at fault.
-#[derive(Drop)]
+#[derive(Clone, Copy)]
 pub enum Turn {
     Go(Seen),
     Fault,

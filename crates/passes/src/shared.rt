@@ -9,7 +9,7 @@ use rules::{Kind, NODE_WORDS, Token};
 
 // What a token does: the number of the node whose phandle is still to be found, or of the next node where it wants none; or
 // that the token is at fault.
-#[derive(Drop)]
+#[derive(Clone, Copy)]
 pub enum Row {
     Go { number: usize, wants: bool },
     Fault,

@@ -10,7 +10,7 @@ use crate::nodes::{name, up};
 
 // The last node that two nodes share, and the nodes just below it on the way to each; the shared node itself where it is one
 // of the two.
-#[derive(Drop)]
+#[derive(Clone, Copy)]
 pub struct Fork {
     pub at: usize,
     pub left: usize,

@@ -21,7 +21,7 @@ const IDS_ROOM: usize = PROGRAM_CEILING / 4;
 
 // What there is to print and to write. Derived: the text and the guest, by their lengths. Refused: the text alone, and no
 // guest is written.
-#[derive(Drop)]
+#[derive(Clone, Copy)]
 pub enum Ran {
     Derived { text: usize, guest: usize },
     Refused { text: usize },

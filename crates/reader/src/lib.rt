@@ -49,14 +49,14 @@ pub enum Refusal {
 }
 
 // How many nodes the blob has, or why it is refused.
-#[derive(Drop)]
+#[derive(Clone, Copy)]
 pub enum Answer {
     Nodes(usize),
     Refused(Refusal),
 }
 
 // A refusal as the paper has it.
-#[derive(Drop)]
+#[derive(Clone, Copy)]
 pub struct Numbered {
     pub number: u64,
     pub place: usize,

@@ -10,7 +10,7 @@ use crate::rows::Cells;
 use crate::table::{Node, begin_of, node_of};
 
 // What a scan comes to.
-#[derive(Drop)]
+#[derive(Clone, Copy)]
 pub enum Next {
     // A reference: the node that it names, the index of the phandle's word, how many words belong to it besides, and the index
     // from which the scan goes on.

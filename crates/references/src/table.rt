@@ -6,7 +6,7 @@ ghost use Rattle.references.specs.Table.{found};
 use rules::NODE_WORDS;
 
 // The number of a node, if there is one.
-#[derive(Drop)]
+#[derive(Clone, Copy)]
 pub enum Node {
     At(usize),
     Nothing,

@@ -15,14 +15,14 @@ use rules::PROGRAM_CEILING;
 const TOP: u64 = 18446744073709551615;
 
 // What stands at a place of the input: a line of `len` bytes, and where the next one begins; or nothing more.
-#[derive(Drop)]
+#[derive(Clone, Copy)]
 pub enum Line {
     Text { len: usize, next: usize },
     Done,
 }
 
 // What a line says. The path of the first two is what stands behind their first two bytes.
-#[derive(Drop)]
+#[derive(Clone, Copy)]
 pub enum Said {
     Configures,
     Excludes,
@@ -31,7 +31,7 @@ pub enum Said {
 }
 
 // Whether the lines may be used, or the place of the first fault, which is refusal 41.
-#[derive(Drop)]
+#[derive(Clone, Copy)]
 pub enum Judged {
     Passes,
     Refused { at: usize },

@@ -17,7 +17,7 @@ pub struct Reservation {
 }
 
 // What making one gives: the reservation, or that address and size are none.
-#[derive(Drop)]
+#[derive(Clone, Copy)]
 pub enum Made {
     Reserved(Reservation),
     InvalidMemoryReservation,

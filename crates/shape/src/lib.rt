@@ -12,7 +12,7 @@ ghost use Rattle.shape.specs.Shape.{opened_by, closed_by, Does, DoesItem, Ends, 
 use rules::{Kind, NODE_CEILING, NODE_WORDS, OPEN_CEILING, Token};
 
 // Why a structure block is refused. `at` is the blob offset of the first offending token.
-#[derive(Drop)]
+#[derive(Clone, Copy)]
 pub enum Refusal {
     // 6: the tokens break the shape of a structure, or an item is cut.
     Shape { at: usize },
@@ -25,7 +25,7 @@ pub enum Refusal {
 }
 
 // How many nodes a structure block has, or why it is refused.
-#[derive(Drop)]
+#[derive(Clone, Copy)]
 pub enum Answer {
     Nodes(usize),
     Refused(Refusal),
@@ -45,7 +45,7 @@ pub struct Walk {
 }
 
 // What an item does.
-#[derive(Drop)]
+#[derive(Clone, Copy)]
 pub enum Turn {
     Opens,
     Closes,

@@ -9,7 +9,7 @@ use rules::{FDT_BEGIN_NODE, FDT_END, FDT_END_NODE, FDT_NOP, FDT_PROP, Kind, Toke
 
 // The next property of a node: where it stands, the length of its value, its name's offset in the strings block, where its value
 // begins, and where what follows it begins.
-#[derive(Drop)]
+#[derive(Clone, Copy)]
 pub enum Property {
     Here {
         at: usize,

@@ -35,7 +35,7 @@ pub struct FdtWriter {
 
 // What a call answers: the next state; or why it is refused, with the state as it was (of a refused start: zeros, marked finished).
 // A refused call changes no buffer.
-#[derive(Drop)]
+#[derive(Clone, Copy)]
 pub enum Written {
     Done(FdtWriter),
     Refused(FdtWriter, Error),
