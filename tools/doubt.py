@@ -81,7 +81,8 @@ def verdict(lines, changed=()):
     bad = [line for line in lines if unread(line, changed)]
     if any(line.startswith("logic=not-proved") for line in lines) and not bad:
         first = next(iter(refused(lines).items()), None)
-        return said_as(*first) if first else "refused"
+        law = next((re.match("`([^`]*)`", m.group(3)) for m in map(TOLD.match, lines) if m and m.group(2)), None)
+        return said_as(*first) if first else f"refused ({law.group(1)})" if law else "refused"
     if any(line.startswith("logic=proved") for line in lines):
         return "proved"
     return "BAD: it did not reach the prover: " + next(iter(bad or [x for x in lines if "error" in x]), "")
