@@ -163,7 +163,7 @@ module _ (rs : List Entry) (cpu : ℕ) (es : List Event) where
     shape_back h =
         rw block_back
         (shape_read at (inner ++ be32 9) strings (omega (arith, total_small, length-append inner (be32 9), length_be32 9))
-        (omega (arith, total_small)) es refl refl clean h)
+        (omega (arith, total_small)) es refl refl h)
 
     moved : Moved (nodes_of es) (tree_read blob)
     unfolding tree_read

@@ -218,9 +218,11 @@ module _ (P : (number place : ℕ) → Type 0) (b : Bytes) (header : (number : �
 abbrev InBlob : Bytes → (number place : ℕ) → Type 0
 InBlob b number place = place ≤ length b
 
+pub judged_within : (b : Bytes) → Within (InBlob b) (blob_judged b)
+judged_within b = judged_at_lem (InBlob b) b (λ n h. omega arith) (λ i at h n. omega (arith, block_inside b i))
+
 pub refused_inside : (b : Bytes) (number place : ℕ) → blob_judged b ≡ refuses number place → place ≤ length b
-refused_inside b number place e = subst (Within (InBlob b)) e
-    (judged_at_lem (InBlob b) b (λ n h. omega arith) (λ i at h n. omega (arith, block_inside b i)))
+refused_inside b number place e = subst (Within (InBlob b)) e (judged_within b)
 
 -- ---- THE PLACE OF A REFUSAL FROM 6 ON LIES IN THE STRUCTURE BLOCK, OR AT ITS END
 

@@ -99,6 +99,10 @@ nested_clean (child {name = name} e f g t) = (reads_nul name e, nested_clean t)
 nested_clean (holds {p = p} e t) = (property_nul p.name e, nested_clean t)
 nested_clean (shuts t) = nested_clean t
 
+-- the names of events that pass have no NUL
+pub judged_clean : (es : List Event) → events_judged es ≡ passes → Clean es
+judged_clean es h = nested_clean (events_nested es h)
+
 -- ---- the walk over the tokens of what was written
 
 module _ (place : ℕ) (W F : Bytes) (fits : length W < 4294967296) (near : length F < 4294967296) where
@@ -210,18 +214,14 @@ module _ (place : ℕ) (W F : Bytes) (fits : length W < 4294967296) (near : leng
       let l : length es ≤ length (structure_of [] es) = structure_long [] es in
       trip es [] [] (suc (length W)) 0 e refl f (omega (arith, ap length e ∙ length-append (structure_of [] es) (be32 9))) c
 
-  pub shape_read : (es : List Event) → W ≡ structure_of [] es ++ be32 9 → F ≡ strings_of [] es → Clean es → events_judged es ≡ passes
+  pub shape_read : (es : List Event) → W ≡ structure_of [] es ++ be32 9 → F ≡ strings_of [] es → events_judged es ≡ passes
       → shape_judged block ≡ passes
   unfolding shape_judged events_judged
-  shape_read es e f c h = (trip_all es e f c).shape at_start h
+  shape_read es e f h = (trip_all es e f (judged_clean es h)).shape at_start h
 
   pub events_read_lem : (es : List Event) → W ≡ structure_of [] es ++ be32 9 → F ≡ strings_of [] es → Clean es → Says (events_in block) es
   unfolding events_in
   events_read_lem es e f c = (trip_all es e f c).events
-
--- the names of events that pass have no NUL
-pub judged_clean : (es : List Event) → events_judged es ≡ passes → Clean es
-judged_clean es h = nested_clean (events_nested es h)
 
 -- events that are the same but for their places pass together
 says_from : {es fs : List Event} → Says es fs → (w : Walk) → judge_events w es ≡ passes → judge_events w fs ≡ passes

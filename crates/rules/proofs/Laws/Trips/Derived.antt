@@ -272,6 +272,6 @@ module _ (b : Block) where
       whole_went bs end (node name props below empty) (roots_go d (n.0, n.1, n.2, tt) l.deep l.many) o (root_size name props below) e
 
   -- WHAT THE GRAMMAR DERIVES WITHIN 01'S LIMITS IS ACCEPTED
-  pub grammar_reads : (f : Forest) → Structure b.strings b.structure f → Limits f
+  pub grammar_passes : (f : Forest) → Structure b.strings b.structure f → Limits f
       → shape_judged b ≡ passes
-  grammar_reads f d l = derived d refl l
+  grammar_passes f d l = derived d refl l

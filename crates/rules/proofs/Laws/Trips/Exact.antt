@@ -7,7 +7,7 @@ use Rattle.rules.specs.Blob.{Block}
 use Rattle.rules.specs.Events.{Property, Event, opens, has, closes, shape_judged}
 use Rattle.rules.specs.Written.{has_said}
 use Rattle.rules.specs.Grammar.{Forest, empty, node, Structure, Limits, tell_props, tell}
-use Rattle.rules.proofs.Laws.Trips.Derived.{grammar_reads}
+use Rattle.rules.proofs.Laws.Trips.Derived.{grammar_passes}
 use Rattle.rules.proofs.Laws.Trips.Parsed.{reads_grammar}
 
 -- ---- the walk and the grammar
@@ -16,7 +16,7 @@ use Rattle.rules.proofs.Laws.Trips.Parsed.{reads_grammar}
 pub accepts_exactly : (b : Block) → (shape_judged b ≡ passes) ↔ ((f : Forest) × Structure b.strings b.structure f × Limits f)
 accepts_exactly b = (
   λ h. let x = reads_grammar b h in (x.0, x.1, x.2),
-  λ x. grammar_reads b x.0 x.1 x.2,
+  λ x. grammar_passes b x.0 x.1 x.2,
 )
 
 -- ---- one tree

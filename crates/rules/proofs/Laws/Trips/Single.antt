@@ -6,7 +6,8 @@ use mathlib.Core.List.{List, [], ◌∷◌, ◌++◌, append_assoc, append-nil}
 use Prim.Native.Nat.{ℕ, ◌+◌, ◌≤◌}
 use Rattle.rules.specs.Octets.{Bytes, padded, has_nul}
 use Rattle.rules.specs.Blob.{Block, block_of}
-use Rattle.rules.specs.Events.{node_name_at, Event, opens, closes, events_in}
+use Rattle.rules.specs.Outcome.{passes}
+use Rattle.rules.specs.Events.{node_name_at, Event, opens, closes, events_in, shape_judged}
 use Rattle.rules.specs.Written.{has_said, unplaced}
 use Rattle.rules.specs.declared.Kind.TheVariants.{Begin, EndNode, Prop, Nop}
 use Rattle.rules.specs.Grammar.{Forest, empty, node, Word, Pads, Stands, Props, no_props, nop_props, prop, Nodes, no_nodes, nop_nodes, a_node, Structure, a_root, Limits, tell_props, tell}
@@ -14,7 +15,7 @@ use Rattle.rules.specs.Exactly.{OneTree, TreeRead}
 use Rattle.rules.specs.Laws.Events.{events_at}
 use Rattle.rules.proofs.Laws.Events.{events_all, events_item, events_end}
 use Rattle.rules.proofs.Laws.Trips.Places.{fits, past, nop_here, close_here, end_here, begin_here, begin_past, begin_fits, name_here, prop_here, prop_past, prop_fits, value_here, string_here}
-use Rattle.rules.proofs.Laws.Trips.Derived.{grammar_reads}
+use Rattle.rules.proofs.Laws.Trips.Derived.{grammar_passes}
 use Rattle.rules.proofs.Laws.Trips.Parsed.{reads_grammar}
 use Rattle.rules.proofs.Laws.Trips.Exact.{one_forest}
 
@@ -148,6 +149,10 @@ module _ (b : Block) where
   pub grammar_says : (f : Forest) → Structure b.strings b.structure f → unplaced (events_in b) ≡ tell f []
   grammar_says f d = structure_told d refl
 
+  -- WHAT THE GRAMMAR DERIVES WITHIN 01'S LIMITS THE WALK ACCEPTS, AND ITS TOKENS SAY IT
+  pub grammar_reads : (f : Forest) → Structure b.strings b.structure f → Limits f → (shape_judged b ≡ passes) × (unplaced (events_in b) ≡ tell f [])
+  grammar_reads f d l = (grammar_passes b f d l, grammar_says f d)
+
   pub one_of_lem : (f g : Forest) → Structure b.strings b.structure f → Structure b.strings b.structure g → f ≡ g
   one_of_lem f g d d' = (one_forest f g [] [] tt tt (sym (grammar_says f d) ∙ grammar_says g d')).0
 
@@ -161,6 +166,6 @@ one_tree_read b f d = (
   grammar_says b f d,
   (
     λ h. let x = reads_grammar b h in subst Limits (one_of_lem b x.0 f x.1 d) x.2,
-    λ l. grammar_reads b f d l,
+    λ l. grammar_passes b f d l,
   ),
 )
