@@ -103,7 +103,7 @@ pub fn refusal(number: u64, place: u64, out: &mut [u8]) -> usize
 
 // Lays the text of an answer into `out`, as `refusal` does: how many paths, the list with each of its NULs turned into a
 // newline, and the guest's length. Of a list of paths without NUL, each closed by NUL, it is the text that is defined
-// (specs/Text.antt, answer-printed).
+// (specs/Text.antt, answer_printed).
 pub fn answer(paths: usize, list: &[u8], guest: usize, out: &mut [u8]) -> usize
     ensures value { result ≡ min (length (answer_text paths list.now guest)) (length out.old) }
     ensures out_after { out.new ≡ lay out.old 0 (answer_text paths list.now guest) }
