@@ -22,6 +22,9 @@ REFUSED = re.compile(r"not proved|no proof: (?!it calls )")
 TOLD = re.compile(r"(?:note: )?(?:\./)?(\S+?):\d+:\d+: (error: )?(.*)")
 # How a proof file is at fault that names what a function no longer has.
 NAMES = re.compile(r"has no field|is not in scope|has no `|was not admitted")
+# What it says of a goal that is left where it found values at which the goal is false. Another goal that is left, beside an answer for a
+# goal that is gone, may be that goal by another name.
+FALSE = re.compile(r"allow values at which this goal is false")
 
 
 def pairs(edit):
@@ -52,7 +55,7 @@ def refused(lines):
     lemmas = any(path.count("/") == 1 and not NAMES.search(text) for path, text in errors)
     for line in lines:
         told = TOLD.match(line)
-        goals += bool(told and line.startswith("note: ") and told.group(1).startswith("src/"))
+        goals += bool(told and line.startswith("note: ") and told.group(1).startswith("src/") and FALSE.search(told.group(3)))
         said = SAID.match(line)
         if said and REFUSED.match(said.group(2)):
             folder = f"proofs/{'/'.join(said.group(1).split('::')[1:])}/"
