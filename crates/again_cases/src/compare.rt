@@ -1,28 +1,31 @@
 // What two blobs that the reader accepted are compared by: the digest of their events, their reservations, their boot CPUs.
 // Names and values count, and places do not.
 use cases::{digest_behind, mixed, up};
-use rules::{Kind, Token};
-
-pub fn down(n: usize) -> usize {
-    if n > 0 { n - 1 } else { 0 }
-}
+use reservation::Reservation;
+use rules::{Block, Kind, Token};
 
 // A number of the header.
 pub fn field(blob: &[u8], at: usize) -> usize {
     octets::word(blob, at) as usize
 }
 
-pub fn structure(blob: &[u8]) -> &[u8] {
-    octets::part(blob, field(blob, 8), field(blob, 36))
+// The part of a blob whose place and length stand at these places of the header.
+fn part(blob: &[u8], place: usize, len: usize) -> &[u8] {
+    octets::part(blob, field(blob, place), field(blob, len))
 }
 
-pub fn names(blob: &[u8]) -> &[u8] {
-    octets::part(blob, field(blob, 12), field(blob, 32))
+// The structure block of a blob, and its strings.
+pub fn block(blob: &[u8]) -> Block {
+    Block {
+        structure: part(blob, 8, 36),
+        strings: part(blob, 12, 32),
+        place: field(blob, 8),
+    }
 }
 
 // The name at an offset of the strings block, without its NUL.
-pub fn closed_at(names: &[u8], at: usize) -> &[u8] {
-    octets::part(names, at, octets::nul(names, at))
+pub fn closed_at(strings: &[u8], at: usize) -> &[u8] {
+    octets::part(strings, at, octets::nul(strings, at))
 }
 
 // ---- the events
@@ -32,64 +35,51 @@ fn text(h: u32, s: &[u8]) -> u32 {
     mixed(digest_behind(h, s), (s.len() % 65536) as u32)
 }
 
-fn event(digest: u32, structure: &[u8], names: &[u8], kind: Kind, at: usize) -> u32 {
+fn event(digest: u32, block: &Block, kind: Kind, at: usize) -> u32 {
     match kind {
-        Kind::Begin { len } => text(mixed(digest, 1), octets::part(structure, up(at, 4), len)),
+        Kind::Begin { len } => text(
+            mixed(digest, 1),
+            octets::part(block.structure, up(at, 4), len),
+        ),
         Kind::EndNode => mixed(digest, 2),
         Kind::Prop { len, name, value } => text(
-            text(mixed(digest, 3), closed_at(names, name)),
-            octets::part(structure, value, len),
+            text(mixed(digest, 3), closed_at(block.strings, name)),
+            octets::part(block.structure, value, len),
         ),
         Kind::Nop => digest,
     }
 }
 
-fn digest(structure: &[u8], names: &[u8]) -> u32 {
+// The digest of a blob's nodes and properties, in their order.
+pub fn events(blob: &[u8]) -> u32 {
+    let block = block(blob);
     let mut h: u32 = 0;
     let mut at = 0;
-    for _ in 0..structure.len() {
-        let Token::Item { kind, next } = tokens::token_at(structure, at) else {
+    for _ in 0..block.structure.len() {
+        let Token::Item { kind, next } = tokens::token_at(block.structure, at) else {
             return h;
         };
-        h = event(h, structure, names, kind, at);
+        h = event(h, &block, kind, at);
         at = next;
     }
     h
 }
 
-// The digest of a blob's nodes and properties, in their order.
-pub fn events(blob: &[u8]) -> u32 {
-    digest(structure(blob), names(blob))
-}
-
 // ---- the reservations
 
-// Whether the reservation at a place is the zero pair that closes them.
-pub fn closes(blob: &[u8], at: usize) -> bool {
-    octets::long(blob, at) == 0 && octets::long(blob, up(at, 8)) == 0
-}
-
-fn same_pair(a: &[u8], i: usize, b: &[u8], j: usize) -> bool {
-    octets::same(octets::part(a, i, 16), octets::part(b, j, 16))
-}
-
-fn same_reservations(a: &[u8], b: &[u8]) -> bool {
-    let mut i = field(a, 16);
-    let mut j = field(b, 16);
-    for _ in 0..a.len() {
-        if !same_pair(a, i, b, j) {
-            return false;
-        }
-        if closes(a, i) {
-            return true;
-        }
-        i = up(i, 16);
-        j = up(j, 16);
-    }
-    false
+// The reservations of a blob that the reader accepted, 16 bytes each: a zero pair closes them.
+pub fn reservations(blob: &[u8]) -> &[u8] {
+    let rest = octets::part(blob, field(blob, 16), blob.len());
+    let n = rest
+        .chunks_exact(Reservation::SIZE)
+        .take_while(|pair| pair.iter().any(|b| *b != 0))
+        .count();
+    octets::part(rest, 0, n.saturating_mul(Reservation::SIZE))
 }
 
 // Whether events, reservations and boot CPU of the two agree.
 pub fn same(a: &[u8], b: &[u8]) -> bool {
-    events(a) == events(b) && same_reservations(a, b) && octets::word(a, 28) == octets::word(b, 28)
+    events(a) == events(b)
+        && reservations(a) == reservations(b)
+        && octets::word(a, 28) == octets::word(b, 28)
 }

@@ -9,11 +9,10 @@ mod rewrite;
 mod told;
 
 use cases::{up, within};
-use reader::Answer;
+use reader::Refusal;
 use std::io;
 use std::io::{Read, Write};
 use streams::read_full;
-use writer::Written;
 
 // Room for the longest blob, and for the reader.
 const BLOB: usize = 1048640;
@@ -46,7 +45,7 @@ fn take_at<R: Read>(input: &mut R, into: &mut [u8], place: usize, n: usize) -> i
     take(input, &mut into[at..], n)
 }
 
-fn read(blob: &[u8]) -> Answer {
+fn read(blob: &[u8]) -> Result<usize, Refusal> {
     let mut work = [0u32; WORDS];
     reader::read(blob, &mut work)
 }
@@ -54,8 +53,8 @@ fn read(blob: &[u8]) -> Answer {
 // What the second reading answers of the blob that was written.
 fn judge<W: Write>(out: &mut W, blob: &[u8], second: &[u8], count: usize) -> io::Result<()> {
     match read(second) {
-        Answer::Refused(refusal) => told::refused(out, refusal),
-        Answer::Nodes(again) => told::verdict(out, count == again && compare::same(blob, second)),
+        Err(refusal) => told::refused(out, refusal),
+        Ok(again) => told::verdict(out, count == again && compare::same(blob, second)),
     }
 }
 
@@ -88,8 +87,8 @@ fn trip<W: Write>(
     told::nodes(out, count)?;
     let m = within(room, data);
     match rewrite::again(blob, &mut data[..m]) {
-        Written::Refused(_, error) => told::stopped(out, error),
-        Written::Done(w) => { written(out, label, blob, count, octets::part(data, 0, w.data_len)) }
+        Err(refused) => told::stopped(out, refused.error),
+        Ok(w) => written(out, label, blob, count, octets::part(data, 0, w.data_len)),
     }
 }
 
@@ -102,8 +101,8 @@ fn run<W: Write>(
 ) -> io::Result<()> {
     out.write_all(label)?;
     match read(blob) {
-        Answer::Refused(refusal) => told::refused(out, refusal),
-        Answer::Nodes(count) => trip(out, label, blob, count, room, data),
+        Err(refusal) => told::refused(out, refusal),
+        Ok(count) => trip(out, label, blob, count, room, data),
     }
 }
 

@@ -18,7 +18,7 @@ pub fn refused<W: Write>(out: &mut W, refusal: Refusal) -> io::Result<()> {
 // What the writing refuses; it ends the line.
 pub fn stopped<W: Write>(out: &mut W, error: Error) -> io::Result<()> {
     out.write_all(b", refused ")?;
-    print_decimal(out, judge::number(error))?;
+    print_decimal(out, error.into())?;
     out.write_all(b"\n")
 }
 
@@ -39,7 +39,7 @@ pub fn digests<W: Write>(out: &mut W, first: u32, second: u32) -> io::Result<()>
     streams::print_hex(out, second as u64, 8)
 }
 
-// Whether the two agree; it ends the line.
+// Whether the two agree; it ends the line. The bool is what is told, and picks no step.
 pub fn verdict<W: Write>(out: &mut W, same: bool) -> io::Result<()> {
     if same {
         out.write_all(b", same\n")

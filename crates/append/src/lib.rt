@@ -3,50 +3,111 @@
 // has more than 32 bits the low 32 are written. Whoever must not lose bytes tests for room first.
 #![tactic(auto)]
 
-ghost use Rattle.std.specs.Prelude.{◌≡◌, ◌++◌, ◌%◌};
-ghost use Rattle.rules.specs.Octets.{be32, words32, words64, zeros, closed, begins, lay};
+ghost use Rattle.std.specs.Prelude.{◌≡◌, refl, true, List, [], ◌∷◌, ◌++◌, ℕ, ◌*◌, ◌%◌, ◌^◌, ◌≤◌, leb, length};
+ghost use Rattle.rules.specs.Octets.{Bytes, be32, words32, words64, zeros, closed, begins, lay};
 ghost use Rattle.rules.specs.Writer.{begin_bytes, end_bytes, property_bytes, name_offset};
+ghost use Rattle.rules.proofs.Laws.Writer.{words32_append, words64_append, length_words32, length_words64};
 
 use rules::{FDT_BEGIN_NODE, FDT_END_NODE, FDT_PROP};
 
 // ---- numbers
 
-// The low 32 bits of a number.
-fn low(n: usize) -> u32
+// The low 32 bits of a number: what is left of it where a field has no more.
+pub fn low(n: usize) -> u32
     ensures { result ≡ n % 4294967296 }
 {
     (n % 4294967296) as u32
 }
 
-// Lays 32-bit numbers into `data` from a place on, one after the other.
-pub fn words(data: &mut [u8], at: usize, cells: &[u32])
-    ensures { «data».new ≡ lay «data».old at (words32 cells.now) }
-{
-    let mut p = at;
-    let mut i = 0;
-    while i < cells.len() {
-        if data.len() <= p {
-            return;
-        }
-        octets::put_word(data, p, cells[i]);
-        p += 4;
-        i += 1;
-    }
+// A number as a blob holds it, the highest byte first: of 32 bits, or of 64.
+pub trait Word: Copy {
+    // The bytes of one.
+    const SIZE: usize;
+
+    ghost SIZE: { ℕ };
+
+    // The bytes of numbers one after the other.
+    ghost bytes: { List Self → Bytes };
+
+    // How many bytes the numbers are.
+    fn size_of(words: &[Self]) -> usize
+        ensures bytes { result ≡ length words.now * SIZE }
+        ensures bound { result ≤ 2 ^ 63 };
+
+    // Lays the number into `data` from a place on. What would come to stand past the end is dropped.
+    fn put(self, data: &mut [u8], at: usize)
+        ensures { «data».new ≡ lay «data».old at (bytes (self ∷ [])) };
+
+    ghost more: { (w : Self) (ws : List Self) → bytes (w ∷ ws) ≡ bytes (w ∷ []) ++ bytes ws };
+
+    ghost wide: { (ws : List Self) → length (bytes ws) ≡ length ws * SIZE };
+
+    // What is so many bytes needs no padding.
+    ghost whole: { SIZE % 4 ≡ 0 };
+
+    // No place behind one wraps.
+    ghost narrow: { leb SIZE 8 ≡ true };
 }
 
-// Lays 64-bit numbers into `data` from a place on, one after the other.
-pub fn longs(data: &mut [u8], at: usize, cells: &[u64])
-    ensures { «data».new ≡ lay «data».old at (words64 cells.now) }
+impl Word for u32 {
+    const SIZE: usize = 4;
+
+    ghost SIZE = { 4 };
+
+    ghost bytes = { words32 };
+
+    fn size_of(words: &[u32]) -> usize {
+        words.len() * 4
+    }
+
+    fn put(self, data: &mut [u8], at: usize) {
+        octets::put_word(data, at, self);
+    }
+
+    ghost more = { λ w. words32_append (w ∷ []) };
+
+    ghost wide = { length_words32 };
+
+    ghost whole = { refl };
+
+    ghost narrow = { refl };
+}
+
+impl Word for u64 {
+    const SIZE: usize = 8;
+
+    ghost SIZE = { 8 };
+
+    ghost bytes = { words64 };
+
+    fn size_of(words: &[u64]) -> usize {
+        words.len() * 8
+    }
+
+    fn put(self, data: &mut [u8], at: usize) {
+        octets::put_long(data, at, self);
+    }
+
+    ghost more = { λ w. words64_append (w ∷ []) };
+
+    ghost wide = { length_words64 };
+
+    ghost whole = { refl };
+
+    ghost narrow = { refl };
+}
+
+// Lays numbers into `data` from a place on, one after the other.
+pub fn words<T: Word>(data: &mut [u8], at: usize, words: &[T])
+    ensures { «data».new ≡ lay «data».old at (T.bytes words.now) }
 {
     let mut p = at;
-    let mut i = 0;
-    while i < cells.len() {
+    for word in words {
         if data.len() <= p {
             return;
         }
-        octets::put_long(data, p, cells[i]);
-        p += 8;
-        i += 1;
+        word.put(data, p);
+        p += T::SIZE;
     }
 }
 
@@ -54,15 +115,10 @@ pub fn longs(data: &mut [u8], at: usize, cells: &[u64])
 fn filled(data: &mut [u8], at: usize, bytes: &[u8], n: usize)
     ensures { «data».new ≡ lay «data».old at (bytes.now ++ zeros n) }
 {
-    let len = bytes.len();
-    octets::put_bytes(data, at, bytes);
-    if data.len() <= at {
-        return;
+    octets::put(data, at, bytes);
+    if bytes.len() < data.len().saturating_sub(at) {
+        octets::put_zeros(data, at + bytes.len(), n);
     }
-    if data.len() - at <= len {
-        return;
-    }
-    octets::put_zeros(data, at + len, n);
 }
 
 // ---- tokens of the structure block
@@ -115,26 +171,15 @@ pub fn property_string(data: &mut [u8], at: usize, nameoff: usize, value: &[u8])
     filled(data, at + 12, value, 4 - value.len() % 4);
 }
 
-// Lays a property whose value is 32-bit numbers.
-pub fn property_words(data: &mut [u8], at: usize, nameoff: usize, cells: &[u32])
-    ensures { «data».new ≡ lay «data».old at (property_bytes nameoff (words32 cells.now)) }
+// Lays a property whose value is numbers.
+pub fn property_words<T: Word>(data: &mut [u8], at: usize, nameoff: usize, words: &[T])
+    ensures { «data».new ≡ lay «data».old at (property_bytes nameoff (T.bytes words.now)) }
 {
     if data.len() <= at {
         return;
     }
-    property_head(data, at, cells.len() * 4, nameoff);
-    words(data, at + 12, cells);
-}
-
-// Lays a property whose value is 64-bit numbers.
-pub fn property_longs(data: &mut [u8], at: usize, nameoff: usize, cells: &[u64])
-    ensures { «data».new ≡ lay «data».old at (property_bytes nameoff (words64 cells.now)) }
-{
-    if data.len() <= at {
-        return;
-    }
-    property_head(data, at, cells.len() * 8, nameoff);
-    longs(data, at + 12, cells);
+    property_head(data, at, T::size_of(words), nameoff);
+    self::words(data, at + 12, words);
 }
 
 // ---- the strings block
@@ -147,10 +192,7 @@ fn closed_here(s: &[u8], name: &[u8]) -> bool
     if s.len() <= n {
         return false;
     }
-    if !octets::begins(name, s) {
-        return false;
-    }
-    s[n] == 0
+    octets::begins(name, s) && s[n] == 0
 }
 
 // Where a string that is `name` begins in a strings block, or the block's length where none is. Strings are counted from the
@@ -158,6 +200,7 @@ fn closed_here(s: &[u8], name: &[u8]) -> bool
 pub fn find_name(strings: &[u8], name: &[u8]) -> usize
     ensures { result ≡ name_offset name.now strings.now }
 {
+    // An iterator over the strings would hand out no places, and split off a last piece without NUL like the others.
     let mut at = 0;
     while at < strings.len() {
         if closed_here(&strings[at..], name) {

@@ -6,10 +6,9 @@
 #![tactic(auto)]
 
 mod line;
-mod taken;
 
-use cases::{case, within, within_longs, within_words};
-use derive::Answer;
+use cases::{case, within};
+use casework::{derived, take_case};
 use std::io;
 use std::io::{Read, Write};
 
@@ -26,26 +25,6 @@ const GUEST: usize = 70000;
 const FILL: u8 = 0xa5;
 
 const FILL_WORD: u32 = 0xa5a5a5a5;
-
-fn with_ids(
-    case: &[u8],
-    ids: &[u64],
-    work: &mut [u32],
-    list: &mut [u8],
-    guest: &mut [u8],
-) -> Answer {
-    let host = case::host(case);
-    let configured = case::part(case, case::CONFIGURED);
-    let excluded = case::part(case, case::EXCLUDED);
-    derive::derive(host, configured, excluded, ids, work, list, guest)
-}
-
-fn derived(case: &[u8], work: &mut [u32], list: &mut [u8], guest: &mut [u8]) -> Answer {
-    let mut ids = [0u64; case::MOST_IDS];
-    case::put_ids(&mut ids, case::part(case, case::IDS));
-    let n = within_longs(case::number(case, case::IDS), &ids);
-    with_ids(case, &ids[..n], work, list, guest)
-}
 
 // Derives, and tells of it.
 fn tell<W: Write>(
@@ -67,7 +46,7 @@ fn lend<W: Write>(
     list: &mut [u8],
     guest: &mut [u8],
 ) -> io::Result<()> {
-    let w = within_words(case::number(case, case::WORDS), work);
+    let w = within(case::number(case, case::WORDS), work);
     let l = within(case::number(case, case::LIST), list);
     let g = within(case::number(case, case::GUEST), guest);
     tell(out, case, &mut work[..w], &mut list[..l], &mut guest[..g])
@@ -86,7 +65,7 @@ fn run<W: Write>(
 
 // One case; false where there is none left.
 fn next<R: Read, W: Write>(input: &mut R, out: &mut W, case: &mut [u8; CASE]) -> io::Result<bool> {
-    if !taken::take_case(input, case)? {
+    if !take_case(input, case)? {
         return Ok(false);
     }
     let mut work = [FILL_WORD; WORDS];

@@ -1,12 +1,13 @@
 -- A turn of each loop, and its end; and that so many elements can be lent as there are.
-use mathlib.Core.Path.{◌≡◌, refl, sym, ap}
+use mathlib.Core.Path.{◌≡◌, refl, sym, ap, ◌∙◌}
 use mathlib.Core.List.{List, [], ◌∷◌, ◌++◌, append-nil}
 use Prim.Native.Nat.{ℕ, zero, suc, ◌+◌, ◌*◌, ◌≤◌, ◌<◌}
 use native.Mathlib.Numerals.{add-one}
 use native.Mathlib.Nat.{le_antisymm, add-zero, not-suc-le-zero, le_of_suc-le-suc}
 use native.Mathlib.Omega.{arith}
-use lib.ListN.{length, drop, get_or, set, replicate, drop_of_length-le}
-use lib.Seq.{drop-cons, drop-length, length-take-le}
+use lib.ListN.{length, drop, set, replicate}
+use lib.Seq.{drop-length, length-take-le}
+use Rattle.std.specs.List.{fold, range_with_len}
 use Rattle.rules.specs.Octets.{Bytes, long_at}
 use Rattle.cases.specs.Case.{up_by, size_of, start_of, ids_in}
 use Rattle.cases.specs.Digests.{mixed, digest_behind}
@@ -14,28 +15,47 @@ use Rattle.cases.specs.Lent.{filled, Lends}
 
 -- ---- digests
 
-pub digest_more : (h : ℕ) (s : List ℕ) (i : ℕ) → i < length s → digest_behind (mixed h (get_or s i 0)) (drop (i + 1) s) ≡ digest_behind h (drop i s)
+-- by `fold`
+pub digest_fold : (h : ℕ) (s : List ℕ) → fold mixed h s ≡ digest_behind h s
 unfolding digest_behind
-digest_more h s i l = rw (add-one i, drop-cons s i 0)
-
-pub digest_end : (h : ℕ) (s : List ℕ) (i : ℕ) → length s ≤ i → digest_behind h (drop i s) ≡ h
-unfolding digest_behind
-digest_end h s i l = rw (drop_of_length-le s {i = i} l)
+digest_fold h [] = refl
+digest_fold h (x ∷ s) = digest_fold (mixed h x) s
 
 -- ---- buffers
 
-pub filled_all : (s : List ℕ) (x i : ℕ) → i ≤ length s → length s ≤ i → replicate i x ++ drop i s ≡ filled s x
+filled_suc : {A : Type 0} (s : List A) (x : A) (i : ℕ) → i < length s → set (replicate i x ++ drop i s) i x ≡ replicate (suc i) x ++ drop (suc i) s
+filled_suc [] x i l = absurd (not-suc-le-zero l)
+filled_suc (y ∷ s) x zero l = refl
+filled_suc (y ∷ s) x (suc i) l = ap (λ t. x ∷ t) (filled_suc s x i (le_of_suc-le-suc l))
+
+pub filled_more : {A : Type 0} (s : List A) (x : A) (i : ℕ) → i < length s → set (replicate i x ++ drop i s) i x ≡ replicate (i + 1) x ++ drop (i + 1) s
+filled_more s x i l = rw (add-one i) (filled_suc s x i l)
+
+pub filled_all : {A : Type 0} (s : List A) (x : A) (i : ℕ) → i ≤ length s → length s ≤ i → replicate i x ++ drop i s ≡ filled s x
 unfolding filled
 filled_all s x i l g = rw (le_antisymm l g, drop-length) (append-nil (replicate (length s) x))
 
-pub lends : (s : List ℕ) (n : ℕ) → n ≤ length s → Lends s n
+pub lends : {A : Type 0} (s : List A) (n : ℕ) → n ≤ length s → Lends s n
 lends s n l = (l, sym (length-take-le n s l))
 
 -- ---- a case
 
-pub start_more : (case : Bytes) (i : ℕ) → up_by (start_of case i) (size_of case i) ≡ start_of case (i + 1)
+start_more : (case : Bytes) (i : ℕ) → up_by (start_of case i) (size_of case i) ≡ start_of case (i + 1)
 unfolding start_of
 start_more case i = rw (add-one i)
+
+-- by `fold`, from part i on
+pub start_fold : (case : Bytes) (i n : ℕ) → fold (λ (at k : ℕ). up_by at (size_of case k)) (start_of case i) (range_with_len i n) ≡ start_of case (i + n)
+start_fold case i zero = rw add-zero
+start_fold case i (suc n) =
+    let e : i + suc n ≡ i + 1 + n = omega arith in
+    ap (λ (at : ℕ). fold (λ (at k : ℕ). up_by at (size_of case k)) at (range_with_len (i + 1) n)) (start_more case i)
+    ∙ start_fold case (i + 1) n
+    ∙ ap (start_of case) (sym e)
+
+pub start_first : (case : Bytes) → start_of case 0 ≡ 48
+unfolding start_of
+start_first case = refl
 
 pub ids_none : (raw : Bytes) (d : List ℕ) → d ≡ ids_in raw 0 0 ++ drop 0 d
 unfolding ids_in

@@ -7,6 +7,7 @@ ghost use Rattle.cases.specs.Case.{number_of, size_of, start_of, host_of, id_byt
 use crate::up;
 
 // The numbers of a head: lengths, but for the count of ids, and for the words and the room of list and guest, which have no part.
+// They are indices, and an enum would be no plainer: `start` counts over all the parts before one, and END is where the last ends.
 pub const LABEL: usize = 0;
 
 pub const FRONT: usize = 1;
@@ -61,29 +62,18 @@ fn id_bytes(n: usize) -> usize
 fn size(case: &[u8], k: usize) -> usize
     ensures { result ≡ size_of case.now k }
 {
-    if k == IDS {
-        return id_bytes(number(case, k));
+    match k {
+        IDS => id_bytes(number(case, k)),
+        WORDS | LIST | GUEST => 0,
+        _ => number(case, k),
     }
-    if k < IDS {
-        return number(case, k);
-    }
-    if k < SPANS {
-        return 0;
-    }
-    number(case, k)
 }
 
 // Where part k begins: behind the head and the parts before it.
 pub fn start(case: &[u8], k: usize) -> usize
     ensures { result ≡ start_of case.now k }
 {
-    let mut at = HEAD;
-    let mut i = 0;
-    while i < k {
-        at = up(at, size(case, i));
-        i += 1;
-    }
-    at
+    (0..k).fold(HEAD, |at, i| up(at, size(case, i)))
 }
 
 // The bytes of part k; those that there are, where there are fewer.
@@ -105,9 +95,7 @@ pub fn host(case: &[u8]) -> &[u8]
 pub fn put_ids(ids: &mut [u64], raw: &[u8])
     ensures { ids.new ≡ ids_in raw.now 0 (length ids.old) }
 {
-    let mut i = 0;
-    while i < ids.len() {
-        ids[i] = octets::long(raw, i * 8);
-        i += 1;
+    for (i, id) in ids.iter_mut().enumerate() {
+        *id = octets::long(raw, i * 8);
     }
 }

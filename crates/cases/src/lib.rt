@@ -15,27 +15,15 @@ ghost use Rattle.cases.specs.Lent.{filled, Lends};
 pub fn mixed(h: u32, x: u32) -> u32
     ensures { result ≡ mixed h x }
 {
-    let wide = (h as u64) * 16777619 + (x as u64) + 1;
+    let wide = u64::from(h) * 16777619 + u64::from(x) + 1;
     (wide % 4294967296) as u32
-}
-
-fn wide(x: u8) -> u32
-    ensures { result ≡ x }
-{
-    x as u32
 }
 
 // The digest of bytes behind the numbers that came to `first`.
 pub fn digest_behind(first: u32, s: &[u8]) -> u32
     ensures { result ≡ digest_behind first s.now }
 {
-    let mut h = first;
-    let mut i = 0;
-    while i < s.len() {
-        h = mixed(h, wide(s[i]));
-        i += 1;
-    }
-    h
+    s.iter().fold(first, |h, b| mixed(h, u32::from(*b)))
 }
 
 // The digest of bytes; 0 where there are none.
@@ -46,64 +34,31 @@ pub fn digest(s: &[u8]) -> u32
 }
 
 // The digest of words; 0 where there are none.
+// One function for bytes and words would be no plainer: its contract would speak of what each of them becomes as a number.
 pub fn digest_words(words: &[u32]) -> u32
     ensures { result ≡ digest_of words.now }
 {
-    let mut h: u32 = 0;
-    let mut i = 0;
-    while i < words.len() {
-        h = mixed(h, words[i]);
-        i += 1;
-    }
-    h
+    words.iter().fold(0, |h, word| mixed(h, *word))
 }
 
 // ---- buffers
 
-// Makes every byte x, so that what is not written shows.
-pub fn fill(s: &mut [u8], x: u8)
+// Makes every element x, so that what is not written shows.
+// A loop in place of std's `fill`, which asks of a type parameter that its clones are the value itself.
+pub fn fill<T: Copy>(s: &mut [T], x: T)
     ensures { s.new ≡ filled s.old x }
 {
-    let mut i = 0;
-    while i < s.len() {
-        s[i] = x;
-        i += 1;
+    for place in s.iter_mut() {
+        *place = x;
     }
 }
 
-// Makes every word x, as `fill` does.
-pub fn fill_words(words: &mut [u32], x: u32)
-    ensures { words.new ≡ filled words.old x }
-{
-    let mut i = 0;
-    while i < words.len() {
-        words[i] = x;
-        i += 1;
-    }
-}
-
-// n, or how many bytes there are where n is more: so many of them can be lent.
-pub fn within(n: usize, s: &[u8]) -> usize
+// n, or how many elements there are where n is more: so many of them can be lent.
+pub fn within<T>(n: usize, s: &[T]) -> usize
     ensures value { result ≡ min n (length s.now) }
     ensures lends { Lends s.now result }
 {
-    if n < s.len() { n } else { s.len() }
-}
-
-// n, or how many words there are where n is more, as `within`.
-pub fn within_words(n: usize, words: &[u32]) -> usize
-    ensures value { result ≡ min n (length words.now) }
-    ensures lends { Lends words.now result }
-{
-    if n < words.len() { n } else { words.len() }
-}
-
-// n, or how many numbers of 64 bits there are where n is more, as `within`.
-pub fn within_longs(n: usize, longs: &[u64]) -> usize
-    ensures value { result ≡ min n (length longs.now) }
-    ensures lends { Lends longs.now result }
-{
-    if n < longs.len() { n } else { longs.len() }
+    n.min(s.len())
 }
 
 // ---- places
@@ -113,10 +68,9 @@ pub fn within_longs(n: usize, longs: &[u64]) -> usize
 pub fn up(at: usize, n: usize) -> usize
     ensures { result ≡ up_by at n }
 {
-    if at < 4294967296 {
-        if n < 4294967296 {
-            return at + n;
-        }
+    if at < 4294967296 && n < 4294967296 {
+        at + n
+    } else {
+        at
     }
-    at
 }

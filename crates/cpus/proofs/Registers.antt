@@ -8,6 +8,7 @@ use native.Mathlib.Omega.{arith}
 use lib.Dec.{eqb}
 use lib.ListN.{length}
 use borrow.Author.Tests.{ne_eqb}
+use Rattle.std.specs.Prelude as lent
 use Rattle.rules.specs.Octets.{Bytes, word_at, long_at, number, number_after, part, ascii, same}
 use Rattle.rules.specs.Blob.{Block}
 use Rattle.rules.specs.Events.{Property, string_at}
@@ -18,11 +19,9 @@ use Rattle.rules.specs.Laws.Events.{events_at}
 use Rattle.rules.specs.Laws.Tabled.{props_at, begin_of, tree_in}
 use Rattle.rules.proofs.Laws.Tabled.{node_in_lem, node_out}
 use Rattle.tokens.specs.declared.Property as next
-use Rattle.tokens.specs.declared.Property.TheVariants.{Here, Missing}
 use Rattle.tokens.specs.Properties.{behind_at, property_at}
 use Rattle.tokens.proofs.Properties.{behind_props, props_none, props_here}
-use Rattle.cpus.specs.declared.register.Register.TheVariants.{Number, Missing as Unread}
-use Rattle.cpus.specs.Registers.{meaning, register_in, reg_in}
+use Rattle.cpus.specs.Registers.{meaning, number_in, reg_in}
 
 -- ---- numbers
 
@@ -49,16 +48,16 @@ eight_number (a ∷ b ∷ c ∷ d ∷ e ∷ f ∷ g ∷ []) l = absurd (let z : 
 eight_number (a ∷ b ∷ c ∷ d ∷ e ∷ f ∷ g ∷ h ∷ i ∷ r) l = absurd (let z : ⊥ = omega arith in z)
 
 module _ (v : Bytes) where
-  pub in_four : length v ≡ 4 → Number (word_at v 0) ≡ register_in v
+  pub in_four : length v ≡ 4 → lent.Some (word_at v 0) ≡ number_in v
   in_four h = rw (four_number v h, h)
 
-  pub in_eight : length v ≡ 8 → Number (long_at v 0) ≡ register_in v
+  pub in_eight : length v ≡ 8 → lent.Some (long_at v 0) ≡ number_in v
   in_eight h = rw (eight_number v h, h)
 
-  pub in_other : (length v ≡ 4 → ⊥) → (length v ≡ 8 → ⊥) → Unread ≡ register_in v
+  pub in_other : (length v ≡ 4 → ⊥) → (length v ≡ 8 → ⊥) → lent.None ≡ number_in v
   in_other f g = rw (ne_eqb (length v) 4 f, ne_eqb (length v) 8 g)
 
-pub in_means : (v : Bytes) → meaning (register_in v) ≡ register_of (some v)
+pub in_means : (v : Bytes) → meaning (number_in v) ≡ register_of (some v)
 in_means v = by_test (eqb (length v) 4 || eqb (length v) 8) (λ e. rw e) (λ e. rw e)
 
 -- ---- the search
@@ -68,7 +67,7 @@ unfolding value_of
 reg_none = refl
 
 module _ (p : Property) (ps : List Property) where
-  reg_hit : same (ascii "reg") p.name ≡ true → reg_in (p ∷ ps) ≡ meaning (register_in p.value)
+  reg_hit : same (ascii "reg") p.name ≡ true → reg_in (p ∷ ps) ≡ meaning (number_in p.value)
   unfolding value_of
   reg_hit e = rw (value_of, e) (sym (in_means p.value))
 
@@ -85,16 +84,16 @@ module _ (b : Block) where
   pub reg_first : (begin at : ℕ) → at ≡ behind_at b.structure begin → reg_in (props_at b begin) ≡ reg_at b at
   reg_first begin at e = ap reg_in (behind_props b begin) ∙ ap (reg_at b) (sym e)
 
-  module _ (at : ℕ) (i : at ≤ length b.structure) (r : next.Property) (e : r ≡ property_at b.structure at) where
-    pub reg_end : r ≡ Missing → reg_at b at ≡ none
+  module _ (at : ℕ) (i : at ≤ length b.structure) (r : lent.Option next.Property) (e : r ≡ property_at b.structure at) where
+    pub reg_end : r ≡ lent.None → reg_at b at ≡ none
     reg_end f = ap reg_in (props_none b at i r e f) ∙ reg_none
 
-    module _ (here len name value next : ℕ) (f : r ≡ Here here len name value next) where
-      pub reg-value : same (ascii "reg") (string_at b.strings name) ≡ true → reg_at b at ≡ meaning (register_in (part b.structure value len))
-      reg-value g = ap reg_in (props_here b at i r e here len name value next f) ∙ reg_hit _ _ g
+    module _ (p : next.Property) (f : r ≡ lent.Some p) where
+      pub reg-value : same (ascii "reg") (string_at b.strings p.name) ≡ true → reg_at b at ≡ meaning (number_in (part b.structure p.value p.len))
+      reg-value g = ap reg_in (props_here b at i r e p f) ∙ reg_hit _ _ g
 
-      pub reg-on : same (ascii "reg") (string_at b.strings name) ≡ false → reg_at b at ≡ reg_at b next
-      reg-on g = ap reg_in (props_here b at i r e here len name value next f) ∙ reg_miss _ _ g
+      pub reg-on : same (ascii "reg") (string_at b.strings p.name) ≡ false → reg_at b at ≡ reg_at b p.next
+      reg-on g = ap reg_in (props_here b at i r e p f) ∙ reg_miss _ _ g
 
 -- ---- the node's own
 

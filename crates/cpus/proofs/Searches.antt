@@ -1,24 +1,26 @@
 -- The tests of the CPU rule one by one, and the searches over nodes and ids, turn by turn.
-use mathlib.Core.Path.{◌≡◌, refl, sym, ap, ◌∙◌}
-use mathlib.Core.Bool.{Bool, true, false, not, ◌&&◌, ◌||◌}
+use mathlib.Core.Path.{◌≡◌, refl, sym, ap, ap₂, ◌∙◌}
+use mathlib.Core.Bool.{Bool, true, false, ◌&&◌, ◌||◌}
 use mathlib.Core.List.{List, [], ◌∷◌}
 use mathlib.Core.Option.{Option}
-use Prim.Native.Nat.{ℕ, suc, ◌+◌, ◌-◌, ◌≤◌, ◌<◌}
+use Prim.Native.Nat.{ℕ, zero, suc, ◌+◌, ◌-◌, ◌≤◌, ◌<◌}
 use native.Mathlib.Omega.{arith}
-use native.Mathlib.Nat.{sub-zero}
 use native.Mathlib.Numerals.{add-one}
 use lib.Dec.{eqb}
 use lib.ListN.{length, get_or, drop, drop_of_length-le}
 use lib.Seq.{drop-cons}
-use borrow.Author.Tests.{eq-eqb, ne_eqb}
-use Rattle.rules.specs.Octets.{ascii, same, begins}
+use Rattle.std.specs.Prelude as lent
+use Rattle.std.specs.Option.{option_eq}
+use Rattle.std.specs.List.{list_any, range_with_len}
+use Rattle.rules.proofs.Laws.Tests.{eqb_sym}
 use Rattle.rules.specs.Lists.{one_of, any}
 use Rattle.rules.specs.Outcome.{passes, refuses}
 use Rattle.rules.specs.Blob.{Block, missing}
-use Rattle.rules.specs.Tree.{Node, Tree, node, Frame, frame, numbers, numbers_from}
-use Rattle.rules.specs.Copy.{is_cpus, cpu_child, reg_of, is_id}
+use Rattle.rules.specs.Tree.{Node, Tree, node, frame, numbers, numbers_from}
+use Rattle.rules.specs.Copy.{cpu_child, reg_of, is_id}
 use Rattle.rules.specs.Derivation.{cpus_from, met, ids_from}
 use Rattle.rules.specs.Laws.Tabled.{cell, tree_in}
+use Rattle.cpus.specs.Registers.{meaning}
 use Rattle.rules.proofs.Laws.Tabled.{tree_length, node_in_lem}
 
 -- ---- the ids
@@ -35,37 +37,16 @@ one_only n id = by (eqb n id)
     by true = refl
     by false = refl
 
--- ---- `/cpus` and its children
+-- a register that is there and says this
+pub read_one : (o : lent.Option ℕ) (id : ℕ) → option_eq eqb o (lent.Some id) ≡ is_id (id ∷ []) (meaning o)
+read_one lent.None id = refl
+read_one (lent.Some n) id = one_only n id
 
-module _ (f : Frame) (i : ℕ) where
-  pub cpus_root : i ≡ 0 → is_cpus f i ≡ false
-  unfolding is_cpus
-  cpus_root e = rw (eq-eqb i 0 e)
-
-  pub cpus_deep : (f.up i ≡ 0 → ⊥) → is_cpus f i ≡ false
-  unfolding is_cpus
-  cpus_deep e = rw (ne_eqb (f.up i) 0 e) (no_more (not (eqb i 0)))
-    where
-      no_more : (a : Bool) → (a && false && same (f.name i) (ascii "cpus")) ≡ false
-      no_more true = refl
-      no_more false = refl
-
-  pub cpus_named : (i ≡ 0 → ⊥) → f.up i ≡ 0 → is_cpus f i ≡ same (f.name i) (ascii "cpus")
-  unfolding is_cpus
-  cpus_named e g = rw (ne_eqb i 0 e, eq-eqb (f.up i) 0 g)
-
-  module _ (parent : ℕ) (u : parent ≡ f.up i) where
-    pub child_elsewhere : is_cpus f parent ≡ false → cpu_child f i ≡ false
-    unfolding cpu_child
-    child_elsewhere e = rw (← u, e)
-
-    pub child_plain : is_cpus f parent ≡ true → same (f.name i) (ascii "cpu") ≡ true → cpu_child f i ≡ true
-    unfolding cpu_child
-    child_plain e g = rw (← u, e, g)
-
-    pub child_begins : is_cpus f parent ≡ true → same (f.name i) (ascii "cpu") ≡ false → cpu_child f i ≡ begins (ascii "cpu@") (f.name i)
-    unfolding cpu_child
-    child_begins e g = rw (← u, e, g)
+-- a slice's own search
+pub contains_one : (n : ℕ) (ids : List ℕ) → list_any (λ (id : ℕ). eqb id n) ids ≡ one_of n ids
+unfolding one_of
+contains_one n [] = refl
+contains_one n (id ∷ ids) = ap₂ (λ (p q : Bool). p || q) (eqb_sym id n) (contains_one n ids)
 
 -- ---- a CPU child and its register
 
@@ -95,26 +76,11 @@ cpus_end t i = refl
 
 -- ---- 44
 
--- an id meets a CPU child from node i on
-abbrev pub met_from : Tree → (id i n : ℕ) → Bool
-met_from t id i n = any (λ (j : ℕ). cpu_child (frame t) j && is_id (id ∷ []) (reg_of (node t j))) (numbers_from i n)
-
-module _ (t : Tree) (id i n : ℕ) where
-  pub met_here : (cpu_child (frame t) i && is_id (id ∷ []) (reg_of (node t i))) ≡ true → met_from t id i (suc n) ≡ true
-  unfolding any numbers_from
-  met_here e = rw e
-
-  pub met_past : (cpu_child (frame t) i && is_id (id ∷ []) (reg_of (node t i))) ≡ false → met_from t id i (suc n) ≡ met_from t id (suc i) n
-  unfolding any numbers_from
-  met_past e = rw e
-
-pub met_end : (t : Tree) (id i : ℕ) → met_from t id i 0 ≡ false
+-- a search over a range is one over its numbers
+range_any : (f : ℕ → Bool) (i n : ℕ) → list_any f (range_with_len i n) ≡ any f (numbers_from i n)
 unfolding any numbers_from
-met_end t id i = refl
-
-pub met_all : (t : Tree) (id count : ℕ) → length t ≡ count → met t id ≡ met_from t id 0 count
-unfolding met
-met_all t id count e = rw e
+range_any f i zero = refl
+range_any f i (suc n) = ap (λ (q : Bool). f i || q) (range_any f (i + 1) n ∙ ap (λ (k : ℕ). any f (numbers_from k n)) (add-one i))
 
 module _ (t : Tree) (ids : List ℕ) (k : ℕ) (h : k < length ids) where
   pub ids_unmet : met t (get_or ids k 0) ≡ false → refuses 44 k ≡ ids_from t k (drop k ids)
@@ -153,20 +119,14 @@ module _ (b : Block) (ws : List ℕ) (count : ℕ) where
         inv ∙ ap (λ (n : ℕ). cpus_from tree (numbers_from i n)) one_more ∙ cpus_past tree i (count - (i + 1)) e
         ∙ ap (λ (k : ℕ). cpus_from tree (numbers_from k (count - (i + 1)))) (sym (add-one i))
 
-    pub met_stop : (id : ℕ) → (cpu_child (frame tree) i && is_id (id ∷ []) (reg_of (node tree i))) ≡ true → met_from tree id i (count - i) ≡ true
-    met_stop id e = ap (met_from tree id i) one_more ∙ met_here tree id i (count - (i + 1)) e
-
-    pub met_on : (id : ℕ) → (cpu_child (frame tree) i && is_id (id ∷ []) (reg_of (node tree i))) ≡ false → met_from tree id i (count - i) ≡ met_from tree id (i + 1) (count - (i + 1))
-    met_on id e = ap (met_from tree id i) one_more ∙ met_past tree id i (count - (i + 1)) e ∙ ap (λ (k : ℕ). met_from tree id k (count - (i + 1))) (sym (add-one i))
-
   pub cpus_last : (i : ℕ) → count ≤ i → cpus_from tree (numbers_from 0 count) ≡ cpus_from tree (numbers_from i (count - i)) → passes ≡ cpus_from tree (numbers (frame tree))
   cpus_last i h inv =
       let z : count - i ≡ 0 = omega arith in
       sym (cpus_end tree i) ∙ ap (λ (n : ℕ). cpus_from tree (numbers_from i n)) (sym z) ∙ sym inv
       ∙ ap (λ (n : ℕ). cpus_from tree (numbers_from 0 n)) (sym (tree_length b ws count 0))
 
-  pub met_first : (id : ℕ) → met tree id ≡ met_from tree id 0 (count - 0)
-  met_first id = met_all tree id count (tree_length b ws count 0) ∙ ap (met_from tree id 0) (sym (sub-zero count))
-
-  pub met_last : (id i : ℕ) → count ≤ i → met_from tree id i (count - i) ≡ false
-  met_last id i h = let z : count - i ≡ 0 = omega arith in ap (met_from tree id i) z ∙ met_end tree id i
+  pub met_any : (id : ℕ) → list_any (λ (i : ℕ). cpu_child (frame tree) i && is_id (id ∷ []) (reg_of (node tree i))) (range_with_len 0 count) ≡ met tree id
+  unfolding met
+  met_any id =
+      range_any (λ (i : ℕ). cpu_child (frame tree) i && is_id (id ∷ []) (reg_of (node tree i))) 0 count
+      ∙ ap (λ (n : ℕ). any (λ (i : ℕ). cpu_child (frame tree) i && is_id (id ∷ []) (reg_of (node tree i))) (numbers_from 0 n)) (sym (tree_length b ws count 0))

@@ -4,115 +4,70 @@ ghost use Rattle.rules.specs.Blob.{missing};
 ghost use Rattle.rules.specs.Tree.{node, frame, numbers};
 ghost use Rattle.rules.specs.Copy.{cpu_child, reg_of, is_id};
 ghost use Rattle.rules.specs.Derivation.{cpus_from, met, ids_from};
-ghost use Rattle.rules.specs.Laws.Tabled.{tree_of};
-ghost use Rattle.cpus.specs.Answers.{refused_by};
+ghost use Rattle.rules.specs.Laws.Lent.{tree_lent};
+ghost use Rattle.cpus.specs.Answers.{unnumbered_meaning, unmet_meaning};
 
 use crate::children::cpu_child;
-use crate::register::{Register, reg_at};
+use crate::register::reg_at;
 use references::table::cell;
+use rules::Tree;
 
-// Whether CPUs and ids may be used, or the place of the first fault.
+// A CPU child without a number, which is refusal 43: where its BEGIN stands.
 #[derive(Clone, Copy)]
-pub enum Judged {
-    Passes,
-    Refused { at: usize },
+pub struct Unnumbered {
+    pub at: usize,
+}
+
+// An id that meets no CPU child, which is refusal 44: its index.
+#[derive(Clone, Copy)]
+pub struct Unmet {
+    pub at: usize,
 }
 
 // Whether node i is a CPU child without a number.
-fn bare(
-    structure: &[u8],
-    strings: &[u8],
-    place: usize,
-    work: &[u32],
-    count: usize,
-    i: usize,
-) -> bool
-    ensures { result ≡ (cpu_child (frame (tree_of place structure.now strings.now work.now count)) i && missing (reg_of (node (tree_of place structure.now strings.now work.now count) i))) }
+fn bare(tree: &Tree, i: usize) -> bool
+    ensures { result ≡ (cpu_child (frame (tree_lent tree.now)) i && missing (reg_of (node (tree_lent tree.now) i))) }
 {
-    if !cpu_child(structure, place, work, count, i) {
-        return false;
-    }
-    match reg_at(structure, strings, place, work, count, i) {
-        Register::Number(_) => false,
-        Register::Missing => true,
-    }
+    cpu_child(tree, i) && reg_at(tree, i).is_none()
 }
 
-// Judges the CPU children. Passes, or Refused, which is 43: `at` is the BEGIN of the first CPU child in blob order whose `reg`
-// is missing or has neither 4 nor 8 bytes.
-pub fn cpus_judged(
-    structure: &[u8],
-    strings: &[u8],
-    place: usize,
-    work: &[u32],
-    count: usize,
-) -> Judged
-    ensures { refused_by 43 result ≡ cpus_from (tree_of place structure.now strings.now work.now count) (numbers (frame (tree_of place structure.now strings.now work.now count))) }
+// Judges the CPU children. Ok, or Err: `at` is the BEGIN of the first CPU child in blob order whose `reg` is missing or has
+// neither 4 nor 8 bytes.
+pub fn cpus_judged(tree: &Tree) -> Result<(), Unnumbered>
+    ensures { unnumbered_meaning result ≡ cpus_from (tree_lent tree.now) (numbers (frame (tree_lent tree.now))) }
 {
-    let mut i = 0;
-    while i < count {
-        if bare(structure, strings, place, work, count, i) {
-            return Judged::Refused {
-                at: cell(work, i, 0) as usize,
-            };
+    for i in 0..tree.count {
+        if bare(tree, i) {
+            return Err(Unnumbered {
+                at: cell(tree.work, i, 0) as usize,
+            });
         }
-        i += 1;
     }
-    Judged::Passes
+    Ok(())
 }
 
 // Whether node i is a CPU child with this number.
-fn meets(
-    structure: &[u8],
-    strings: &[u8],
-    place: usize,
-    work: &[u32],
-    count: usize,
-    id: u64,
-    i: usize,
-) -> bool
-    ensures { result ≡ (cpu_child (frame (tree_of place structure.now strings.now work.now count)) i && is_id (id ∷ []) (reg_of (node (tree_of place structure.now strings.now work.now count) i))) }
+fn meets(tree: &Tree, id: u64, i: usize) -> bool
+    ensures { result ≡ (cpu_child (frame (tree_lent tree.now)) i && is_id (id ∷ []) (reg_of (node (tree_lent tree.now) i))) }
 {
-    if !cpu_child(structure, place, work, count, i) {
-        return false;
-    }
-    match reg_at(structure, strings, place, work, count, i) {
-        Register::Number(n) => n == id,
-        Register::Missing => false,
-    }
+    cpu_child(tree, i) && reg_at(tree, i) == Some(id)
 }
 
 // Whether an id meets a CPU child.
-fn met(structure: &[u8], strings: &[u8], place: usize, work: &[u32], count: usize, id: u64) -> bool
-    ensures { result ≡ met (tree_of place structure.now strings.now work.now count) id }
+fn met(tree: &Tree, id: u64) -> bool
+    ensures { result ≡ met (tree_lent tree.now) id }
 {
-    let mut i = 0;
-    while i < count {
-        if meets(structure, strings, place, work, count, id, i) {
-            return true;
-        }
-        i += 1;
-    }
-    false
+    (0..tree.count).any(|i| meets(tree, id, i))
 }
 
-// Judges the ids. Passes, or Refused, which is 44: `at` is the index of the first id that meets no CPU child.
-pub fn ids_judged(
-    structure: &[u8],
-    strings: &[u8],
-    place: usize,
-    work: &[u32],
-    count: usize,
-    ids: &[u64],
-) -> Judged
-    ensures { refused_by 44 result ≡ ids_from (tree_of place structure.now strings.now work.now count) 0 ids.now }
+// Judges the ids. Ok, or Err: `at` is the index of the first id that meets no CPU child.
+pub fn ids_judged(tree: &Tree, ids: &[u64]) -> Result<(), Unmet>
+    ensures { unmet_meaning result ≡ ids_from (tree_lent tree.now) 0 ids.now }
 {
-    let mut k = 0;
-    while k < ids.len() {
-        if !met(structure, strings, place, work, count, ids[k]) {
-            return Judged::Refused { at: k };
+    for (at, id) in ids.iter().enumerate() {
+        if !met(tree, *id) {
+            return Err(Unmet { at });
         }
-        k += 1;
     }
-    Judged::Passes
+    Ok(())
 }

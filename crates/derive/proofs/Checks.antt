@@ -1,19 +1,18 @@
 -- A request judged part by part.
-use mathlib.Core.Path.{◌≡◌, refl, sym, ◌∙◌}
+use mathlib.Core.Path.{◌≡◌, refl, ap}
 use mathlib.Core.List.{List, [], ◌∷◌}
 use Prim.Native.Nat.{ℕ}
 use native.Mathlib.Omega.{arith}
 use lib.ListN.{length}
-use Rattle.rules.specs.Outcome.{Outcome, passes, gives, refuses, ◌then◌}
+use Rattle.rules.specs.Outcome.{Verdict, passes, gives, refuses, ◌then◌}
 use Rattle.rules.specs.Tree.{Tree, frame, numbers}
 use Rattle.rules.specs.Derivation.{Request, cpus_from, cpus_judged, ids_from, request_judged}
-use Rattle.rules.proofs.Laws.Verdicts.{then_then}
 use Rattle.asked.specs.Judged.{Judges}
 
 -- ---- 43 and 44
 
-module _ (t : Tree) (n : ℕ) where
-  pub no_ids : (ids : List ℕ) → length ids ≡ 0 → gives n ≡ (cpus_judged t ids then ids_from t 0 ids then gives n)
+module _ (t : Tree) where
+  pub no_ids : (ids : List ℕ) → length ids ≡ 0 → passes ≡ (cpus_judged t ids then ids_from t 0 ids)
   unfolding cpus_judged ids_from
   no_ids [] e = refl
   no_ids (x ∷ ids) e = absurd (let z : ⊥ = omega arith in z)
@@ -24,14 +23,11 @@ module _ (t : Tree) (n : ℕ) where
   some_ids (x ∷ ids) e = refl
 
   module _ (ids : List ℕ) (e : length ids ≡ 0 → ⊥) where
-    pub bad_cpu : (at : ℕ) → refuses 43 at ≡ cpus_from t (numbers (frame t)) → refuses 43 at ≡ (cpus_judged t ids then ids_from t 0 ids then gives n)
+    pub bad_cpu : (at : ℕ) → refuses 43 at ≡ cpus_from t (numbers (frame t)) → refuses 43 at ≡ (cpus_judged t ids then ids_from t 0 ids)
     bad_cpu at f = rw (some_ids ids e, ← f)
 
-    pub bad_id : (at : ℕ) → passes ≡ cpus_from t (numbers (frame t)) → refuses 44 at ≡ ids_from t 0 ids → refuses 44 at ≡ (cpus_judged t ids then ids_from t 0 ids then gives n)
-    bad_id at f g = rw (some_ids ids e, ← f, ← g)
-
-    pub good_ids : passes ≡ cpus_from t (numbers (frame t)) → passes ≡ ids_from t 0 ids → gives n ≡ (cpus_judged t ids then ids_from t 0 ids then gives n)
-    good_ids f g = rw (some_ids ids e, ← f, ← g)
+    pub then_ids : (v : Verdict) → passes ≡ cpus_from t (numbers (frame t)) → v ≡ ids_from t 0 ids → v ≡ (cpus_judged t ids then ids_from t 0 ids)
+    then_ids v f g = rw (some_ids ids e, ← f, ← g)
 
 -- ---- the request
 
@@ -41,5 +37,6 @@ module _ (t : Tree) (q : Request) where
   unfolding request_judged
   request_so = record { so = refl }
 
-  pub behind_so : (n : ℕ) (said : Outcome ℕ) → said ≡ (cpus_judged t q.ids then ids_from t 0 q.ids then gives n) → said ≡ ((cpus_judged t q.ids then ids_from t 0 q.ids) then gives n)
-  behind_so n said e = e ∙ sym (then_then (cpus_judged t q.ids) (ids_from t 0 q.ids) (gives n))
+  -- of the verdict behind the lists, what is said of n nodes
+  pub behind_so : (n : ℕ) (v : Verdict) → v ≡ (cpus_judged t q.ids then ids_from t 0 q.ids) → (v then gives n) ≡ ((cpus_judged t q.ids then ids_from t 0 q.ids) then gives n)
+  behind_so n v e = ap (λ (w : Verdict). w then gives n) e

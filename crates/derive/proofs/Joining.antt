@@ -1,8 +1,10 @@
 -- The parts joined: what the reader says, what is judged, and what is written.
+use Rattle.std.specs.Prelude.{Result}
 use mathlib.Core.Path.{◌≡◌, refl, sym, ap, ap₂, ◌∙◌}
 use mathlib.Core.List.{List}
 use Prim.Native.Nat.{ℕ, ◌≤◌}
-use lib.ListN.{length, take}
+use native.Mathlib.Omega.{arith}
+use lib.ListN.{length, take, length-take}
 use Rattle.rules.specs.Ceilings.{entry_ceiling}
 use Rattle.rules.specs.Octets.{Bytes, put, lay}
 use Rattle.rules.specs.Outcome.{Outcome, passes, gives, settled, ◌then◌}
@@ -13,7 +15,7 @@ use Rattle.rules.specs.Copy.{Asked as AskedFor}
 use Rattle.rules.specs.Reader.{events_read, tree_read, blob_judged, space_judged, read, read_work}
 use Rattle.rules.specs.References.{edition1}
 use Rattle.rules.specs.Derivation.{Request, Derived, given, nodes_named, asked, request_judged, listed_paths, list_of, guest_of, derive, derive_list, derive_guest, derive_work}
-use Rattle.rules.proofs.Laws.Verdicts.{passes_then}
+use Rattle.rules.proofs.Laws.Verdicts.{passes_then, then_gives}
 use Rattle.rules.proofs.Laws.Formed.{accepted}
 use Rattle.rules.specs.Laws.Host.{HostRead}
 use Rattle.rules.proofs.Laws.Host.{kept_in, tree_in_lem, read_refuses, read_passes, space_left}
@@ -25,8 +27,7 @@ use Rattle.asked.proofs.Judged.{granted, refused_so}
 use Rattle.reader.specs.declared.Refusal.{Refusal as ReaderRefusal}
 use Rattle.reader.specs.Answers.{number_of as readerNumber, place_of as readerPlace, refused as read_refused}
 use Rattle.derive.specs.declared.Refusal.{Refusal}
-use Rattle.derive.specs.declared.Answer.{Answer}
-use Rattle.derive.specs.declared.judged.Checked.{Checked}
+use Rattle.derive.specs.declared.Derived as lent
 use Rattle.derive.specs.Answers.{number_of, place_of, refused, meaning, checked}
 use Rattle.derive.specs.Answered.{Checks, answered, Accepts}
 use Rattle.derive.proofs.Checks.{request_so}
@@ -48,9 +49,9 @@ module _ (host : Bytes) (ws : List ℕ) (count : ℕ) (read : HostRead host ws c
   abbrev t : Tree
   t = tree_in b ws count
 
-  module _ (old new : List ℕ) (r : Checked) (c : Checks t q old new r) where
+  module _ (old new : List ℕ) (r : Result ℕ Refusal) (c : Checks t q old new r) where
     -- refused
-    pub accepts_not : (refusal : Refusal) → checked r ≡ refused refusal → (a : Answer) → meaning a ≡ refused refusal → (list guest : Bytes) → Accepts host q ws ws list list guest guest a
+    pub accepts_not : (refusal : Refusal) → checked r ≡ refused refusal → (a : Result lent.Derived Refusal) → meaning a ≡ refused refusal → (list guest : Bytes) → Accepts host q ws ws list list guest guest a
     accepts_not refusal e a f list guest =
         let v : request_judged t q ≡ refused refusal = refused_so (request_so t q) old new (checked r) c (number_of refusal) (place_of refusal) e in
         let w : request_judged (tree_read host) q ≡ refused refusal = ap (λ (u : Tree). request_judged u q) (sym tree_is) ∙ v in
@@ -67,6 +68,10 @@ module _ (host : Bytes) (ws : List ℕ) (count : ℕ) (read : HostRead host ws c
       conf-is : take n new ≡ (asked (frame t) q).conf
       conf-is = lists.conf-is (request_so t q) old new (checked r) c n e room
 
+      -- and are no more than the array has
+      pub conf-fits : n ≤ length new
+      conf-fits = omega (arith, (then_gives (request_judged t q) n _ (sym e ∙ c.answer)).1, ap length conf-is, length-take n new)
+
       passed : request_judged t q ≡ passes
       passed = lists.passed (request_so t q) old new (checked r) c n e
 
@@ -76,6 +81,10 @@ module _ (host : Bytes) (ws : List ℕ) (count : ℕ) (read : HostRead host ws c
       module _ (zeroed excl : List ℕ) (m : ℕ) (wide : entry_ceiling ≤ length zeroed) (f : m ≡ length (nodes_named (frame t) (given q.excluded))) (g : excl ≡ lay zeroed 0 (nodes_named (frame t) (given q.excluded))) where
         excl-is : take m excl ≡ (asked (frame t) q).excl
         excl-is = lists.excl-is (request_so t q) old new (checked r) c n e zeroed excl m wide f g
+
+        pub excl-fits : m ≤ length excl
+        unfolding asked
+        excl-fits = omega (arith, f, ap length excl-is, length-take m excl)
 
         asked_is : record { conf = take n new; excl = take m excl; ids = q.ids } ≡ asked (frame t) q
         unfolding asked
@@ -97,7 +106,7 @@ module _ (host : Bytes) (ws : List ℕ) (count : ℕ) (read : HostRead host ws c
         unfolding guest_of events_read
         copy-bytes = ap (copy_bytes t (events_in b)) asked_is ∙ ap₂ (λ (u : Tree) (c : Block). copy_bytes u (events_in c) (asked (frame u) q)) tree_is same
 
-        pub accepts : (vs : List ℕ) (list list' guest guest' : Bytes) (a : Answer) → Writes b count (record { conf = take n new; excl = take m excl; ids = q.ids }) ws vs list list' guest guest' a → Accepts host q ws vs list list' guest guest' a
+        pub accepts : (vs : List ℕ) (list list' guest guest' : Bytes) (a : Result lent.Derived Refusal) → Writes b count (record { conf = take n new; excl = take m excl; ids = q.ids }) ws vs list list' guest guest' a → Accepts host q ws vs list list' guest guest' a
         accepts vs list list' guest guest' a w = record {
           answer = w.answer ∙ roomy-is (length list) (length guest);
           listed = w.listed ∙ ap₂ (λ (o : Outcome Derived) (l : Bytes). settled o list (put list 0 l)) (roomy-is (length list) (length guest)) list-bytes;

@@ -1,5 +1,5 @@
 -- Two answers that say the same are the same: the meaning of an answer gives it back.
-use Rattle.std.specs.Prelude.{if◌then◌else◌}
+use Rattle.std.specs.Prelude.{if◌then◌else◌, Result, Ok, Err}
 use mathlib.Core.Path.{◌≡◌, refl, sym, ap, ◌∙◌}
 use Prim.Native.Nat.{ℕ}
 use lib.Dec.{eqb, leb}
@@ -10,8 +10,7 @@ use Rattle.rules.specs.Derivation.{Derived, Request, derive}
 use Rattle.reader.proofs.Unique as reader
 use Rattle.derive.specs.declared.Refusal.{Refusal}
 use Rattle.derive.specs.declared.Refusal.TheVariants.{NoSpace, Reader, Lists, Configured, Register, Unmet, List, Guest}
-use Rattle.derive.specs.declared.Answer.{Answer}
-use Rattle.derive.specs.declared.Answer.TheVariants.{Derived as Gives, Refused}
+use Rattle.derive.specs.declared.Derived as lent
 use Rattle.derive.specs.Answers.{number_of, place_of, meaning}
 
 refusal_of : (number place : ℕ) → Refusal
@@ -36,19 +35,19 @@ refusal_back (Unmet place) = refl
 refusal_back (List place) = refl
 refusal_back (Guest place) = refl
 
-answer_of : Outcome Derived → Answer
-answer_of (gives d) = Gives d.paths d.list_length d.guest_length
-answer_of (refuses number place) = Refused (refusal_of number place)
+answer_of : Outcome Derived → Result lent.Derived Refusal
+answer_of (gives d) = Ok (record { paths = d.paths; list = d.list_length; guest = d.guest_length })
+answer_of (refuses number place) = Err (refusal_of number place)
 
-back : (a : Answer) → answer_of (meaning a) ≡ a
+back : (a : Result lent.Derived Refusal) → answer_of (meaning a) ≡ a
 unfolding answer_of
-back (Gives paths list guest) = refl
-back (Refused r) = ap Refused (refusal_back r)
+back (Ok d) = refl
+back (Err r) = ap Err (refusal_back r)
 
-pub meaning_injective : (a c : Answer) → meaning a ≡ meaning c → a ≡ c
+pub meaning_injective : (a c : Result lent.Derived Refusal) → meaning a ≡ meaning c → a ≡ c
 meaning_injective a c e = sym (back a) ∙ ap answer_of e ∙ back c
 
 -- ANY TWO RESULTS THAT THE DERIVATION'S PROMISE ALLOWS ARE EQUAL
-pub one_answer : (host : Bytes) (q : Request) (words listRoom guestRoom : ℕ) (a c : Answer) → meaning a ≡ derive edition1 host q words listRoom guestRoom
+pub one_answer : (host : Bytes) (q : Request) (words listRoom guestRoom : ℕ) (a c : Result lent.Derived Refusal) → meaning a ≡ derive edition1 host q words listRoom guestRoom
     → meaning c ≡ derive edition1 host q words listRoom guestRoom → a ≡ c
 one_answer host q words listRoom guestRoom a c p r = meaning_injective a c (p ∙ sym r)

@@ -1,18 +1,18 @@
 -- Both outputs, measured and written.
-use Rattle.std.specs.Prelude.{if◌then◌else◌}
+use Rattle.std.specs.Prelude.{if◌then◌else◌, Result, Ok, Err}
 use mathlib.Core.Path.{◌≡◌, refl, sym, ap, ap₂, ◌∙◌}
-use mathlib.Core.Bool.{Bool, true, false, ◌&&◌}
+use mathlib.Core.Bool.{Bool, true, false}
 use mathlib.Core.List.{List, [], map}
 use Prim.Native.Nat.{ℕ, zero, suc, ◌+◌, ◌≤◌, ◌<◌, min}
 use native.Mathlib.Omega.{arith}
 use native.Mathlib.Nat.{zero-add}
-use lib.Dec.{eqb, leb}
+use lib.Dec.{eqb, ltb}
 use lib.ListN.{length, get_or, take, drop, length-take, length-drop, length-map}
 use lib.Seq.{get_or-take, get_or-drop, ext_get_or}
-use borrow.Author.Tests.{lt-ltb, le-ltb, lt-leb, le-leb, leb-true}
+use borrow.Author.Tests.{ltb-false}
 use Rattle.rules.specs.Ceilings.{blob_ceiling, node_ceiling, work_words}
 use Rattle.rules.specs.Octets.{Bytes, put, lay}
-use Rattle.rules.specs.Outcome.{Outcome, gives, refuses, ◌then◌}
+use Rattle.rules.specs.Outcome.{Verdict, passes, gives, ◌then◌}
 use Rattle.rules.specs.Blob.{Block}
 use Rattle.rules.specs.Events.{Event, events_in}
 use Rattle.rules.specs.Tree.{Tree, path, nodes_of}
@@ -21,9 +21,10 @@ use Rattle.rules.specs.Listing.{◌∈◌, listed, paths_bytes}
 use Rattle.rules.specs.Copy.{copied, guest_events, guest_bytes}
 use Rattle.rules.specs.Copy.{Asked as AskedFor}
 use Rattle.rules.specs.Written.{write_events, blob_of}
-use Rattle.rules.specs.Derivation.{Derived, room_judged}
+use Rattle.rules.specs.Derivation.{room_judged}
 use Rattle.rules.specs.Space.{marks_at, list_at, stack_at}
-use Rattle.rules.proofs.Laws.Tests.{and_true}
+use Rattle.rules.proofs.Laws.Tests.{by_test}
+use Rattle.rules.proofs.Laws.Verdicts.{gives_refuses}
 use Rattle.rules.proofs.Laws.Octets.{lay_put}
 use Rattle.rules.proofs.Laws.Copy.{copied_root, copied_parent}
 use Rattle.rules.proofs.Laws.Listing.{listed_small}
@@ -37,40 +38,21 @@ use Rattle.guest.specs.Walked.{marked, sieved, blank, Ready, Above}
 use Rattle.guest.specs.Marking.{marked_word, marks_ready, marks_sieve}
 use Rattle.guest.specs.Finished.{guest_length_lem}
 use Rattle.spelled.specs.Lists as spelt
-use Rattle.derive.specs.declared.Answer.{Answer}
-use Rattle.derive.specs.Answers.{meaning}
+use Rattle.derive.specs.declared.Refusal.{Refusal}
+use Rattle.derive.specs.Answers.{refused, checked}
 use Rattle.derive.specs.Marked.{Marks}
 use Rattle.derive.specs.Written.{Whole, paths_of, list_bytes, copy_bytes, roomy, Writes}
 
 -- ---- what fits
 
-module _ (L G lr gr : ℕ) where
-  pub list_short : lr < L → (a : Derived) → ◌≡◌ {A = Outcome Derived} (refuses 45 L) (room_judged L G lr gr then gives a)
-  unfolding room_judged
-  list_short h a = rw (lt-ltb lr L h)
-
-  pub guest_short : L ≤ lr → (r : ℕ) → r ≡ min gr blob_ceiling → r < G → (a : Derived) → ◌≡◌ {A = Outcome Derived} (refuses 46 G) (room_judged L G lr gr then gives a)
-  unfolding room_judged
-  guest_short h r e k a = rw (le-ltb lr L h, ← e, lt-ltb r G k)
-
-  pub both_fit : L ≤ lr → (r : ℕ) → r ≡ min gr blob_ceiling → G ≤ r → (a : Derived) → gives a ≡ (room_judged L G lr gr then gives a)
-  unfolding room_judged
-  both_fit h r e k a = rw (le-ltb lr L h, ← e, le-ltb r G k)
-
--- ---- what is granted
-
-module _ (lent listed most copied : ℕ) (r : Bool) (e : r ≡ (leb listed lent && leb copied most)) where
-  pub no_list : lent < listed → r ≡ false
-  no_list h = e ∙ rw (lt-leb listed lent h)
-
-  pub no_guest : listed ≤ lent → most < copied → r ≡ false
-  no_guest h k = e ∙ rw (le-leb listed lent h, lt-leb copied most k)
-
-  pub both_granted : listed ≤ lent → copied ≤ most → r ≡ true
-  both_granted h k = e ∙ rw (le-leb listed lent h, le-leb copied most k)
-
-  pub granted_guest : r ≡ true → copied ≤ most
-  granted_guest h = leb-true copied most (and_true (leb listed lent) (leb copied most) (sym e ∙ h)).1
+-- where neither is refused, both have their room
+pub fits : (L G lr gr : ℕ) → passes ≡ room_judged L G lr gr → (L ≤ lr) × (G ≤ min gr blob_ceiling)
+unfolding room_judged
+fits L G lr gr e = by_test (ltb lr L)
+    (λ f. gives_refuses tt 45 L (sym (e ∙ rw f)))
+    (λ f. by_test (ltb (min gr blob_ceiling) G)
+    (λ g. gives_refuses tt 46 G (sym (e ∙ rw (f, g))))
+    (λ g. (ltb-false lr L f, ltb-false (min gr blob_ceiling) G g)))
 
 -- ---- from the marks on
 
@@ -165,33 +147,35 @@ module _ (b : Block) (count : ℕ) (q : AskedFor) (ws : List ℕ) (a : Asked b w
       measured : (lr gr : ℕ) → (room_judged L G lr gr then gives (record { paths = n; list_length = L; guest_length = G })) ≡ roomy t es q lr gr
       measured lr gr = rw (← length_list, ← length-copy, ← length_paths)
 
-      refused : (number place : ℕ) → refuses number place ≡ roomy t es q (length list) (length guest) → (guest' : Bytes) → guest' ≡ guest → (r : Answer) → meaning r ≡ refuses number place → Writes b count q ws us list list guest guest' r
-      refused number place e guest' o r f = record {
-        answer = f ∙ e;
-        listed = rw (← e);
-        copied = o ∙ rw (← e);
-        size = rest_is.0;
-        rest = rest_is.1;
-      }
-
-      pub writes_45 : length list < L → (guest' : Bytes) → guest' ≡ guest → (r : Answer) → meaning r ≡ refuses 45 L → Writes b count q ws us list list guest guest' r
-      writes_45 k guest' o r f = refused 45 L (list_short L G (length list) (length guest) k _ ∙ measured (length list) (length guest)) guest' o r f
-
-      pub writes-46 : L ≤ length list → (room : ℕ) → room ≡ min (length guest) blob_ceiling → room < G → (guest' : Bytes) → guest' ≡ guest → (r : Answer) → meaning r ≡ refuses 46 G → Writes b count q ws us list list guest guest' r
-      writes-46 j room e k guest' o r f = refused 46 G (guest_short L G (length list) (length guest) j room e k _ ∙ measured (length list) (length guest)) guest' o r f
-
-      pub guest-room : (room : ℕ) → room ≡ min (length guest) blob_ceiling → G ≤ room → 56 + size.structure + 4 + size.strings ≤ length guest
-      guest-room room e k = omega (arith, h, e, k)
+      -- refused
+      pub writes-none : (r : Result (Unit {0}) Refusal) → checked r ≡ room_judged L G (length list) (length guest) → (f : Refusal) → r ≡ Err f → Writes b count q ws us list list guest guest (Err f)
+      writes-none r e f g =
+          let v : refused f ≡ roomy t es q (length list) (length guest) =
+          ap (λ (o : Verdict). o then gives (record { paths = n; list_length = L; guest_length = G })) (sym (ap checked g) ∙ e) ∙ measured (length list) (length guest) in
+          record {
+            answer = v;
+            listed = rw (← v);
+            copied = rw (← v);
+            size = rest_is.0;
+            rest = rest_is.1;
+          }
 
       -- and where both fit
-      module _ (j : L ≤ length list) (room : ℕ) (e : room ≡ min (length guest) blob_ceiling) (k : G ≤ room) where
+      module _ (r : Result (Unit {0}) Refusal) (e : checked r ≡ room_judged L G (length list) (length guest)) (p : r ≡ Ok tt) where
+        passed : passes ≡ room_judged L G (length list) (length guest)
+        passed = sym (ap checked p) ∙ e
+
+        pub guest-room : 56 + size.structure + 4 + size.strings ≤ length guest
+        guest-room = omega (arith, h, (fits L G (length list) (length guest) passed).1)
+
         pub writes-both : (list' guest' : Bytes) → list' ≡ lay list 0 (spelt.list_bytes (tree_in b us count) us n) → guest' ≡ put guest 0 (blob_of [] 0 (sieved b.place b.structure b.strings us))
-            → (r : Answer) → meaning r ≡ gives (record { paths = n; list_length = L; guest_length = G }) → Writes b count q ws us list list' guest guest' r
-        writes-both list' guest' p o r f =
-            let d : gives (record { paths = n; list_length = L; guest_length = G }) ≡ roomy t es q (length list) (length guest) = both_fit L G (length list) (length guest) j room e k _ ∙ measured (length list) (length guest) in
+            → Writes b count q ws us list list' guest guest' (Ok (record { paths = n; list = L; guest = G }))
+        writes-both list' guest' p o =
+            let d : gives (record { paths = n; list_length = L; guest_length = G }) ≡ roomy t es q (length list) (length guest) =
+            ap (λ (o : Verdict). o then gives (record { paths = n; list_length = L; guest_length = G })) passed ∙ measured (length list) (length guest) in
             record {
-              answer = f ∙ d;
-              listed = p ∙ ap (lay list 0) (bytes_are us g.size g.before) ∙ lay_put list 0 (list_bytes t q) (omega (arith, length_list)) ∙ rw (← d);
+              answer = d;
+              listed = p ∙ ap (lay list 0) (bytes_are us g.size g.before) ∙ lay_put list 0 (list_bytes t q) (omega (arith, length_list, (fits L G (length list) (length guest) passed).0)) ∙ rw (← d);
               copied = o ∙ ap (put guest 0) (copy_is us g.size g.before) ∙ rw (← d);
               size = rest_is.0;
               rest = rest_is.1;

@@ -1,5 +1,5 @@
 -- The derivation from a tree on.
-use Rattle.std.specs.Prelude.{◌≡◌, List, ℕ, length, drop}
+use Rattle.std.specs.Prelude.{◌≡◌, List, ℕ, length, drop, Result}
 use Rattle.rules.specs.Ceilings.{work_words}
 use Rattle.rules.specs.Octets.{Bytes, put}
 use Rattle.rules.specs.Outcome.{Outcome, gives, settled, ◌then◌}
@@ -8,12 +8,12 @@ use Rattle.rules.specs.Reader.{tree_read}
 use Rattle.rules.specs.References.{edition1}
 use Rattle.rules.specs.Derivation.{Request, Derived, request_judged, room_judged, listed_paths, list_of, guest_of}
 use Rattle.asked.specs.Judged as lists
-use Rattle.derive.specs.declared.Answer.{Answer}
-use Rattle.derive.specs.declared.judged.Checked.{Checked}
+use Rattle.derive.specs.declared.Refusal.{Refusal}
+use Rattle.derive.specs.declared.Derived as lent
 use Rattle.derive.specs.Answers.{meaning, checked}
 
 -- a request judged: the answer, and, where it passes, the nodes configured
-abbrev pub Checks : Tree → Request → (old new : List ℕ) → Checked → Type 0
+abbrev pub Checks : Tree → Request → (old new : List ℕ) → Result ℕ Refusal → Type 0
 Checks t q old new r = lists.Checks (frame t) q (request_judged t q) old new (checked r)
 
 -- 41 to 46, or the answer
@@ -28,7 +28,7 @@ answered host q listRoom guestRoom =
       guest_length = length (guest_of edition1 host q);
     })
 
-pub record Accepts (host : Bytes) (q : Request) (ws vs : List ℕ) (list list' guest guest' : Bytes) (r : Answer) : Type 0 where
+pub record Accepts (host : Bytes) (q : Request) (ws vs : List ℕ) (list list' guest guest' : Bytes) (r : Result lent.Derived Refusal) : Type 0 where
   pub answer : meaning r ≡ answered host q (length list) (length guest)
   pub listed : list' ≡ settled (answered host q (length list) (length guest)) list (put list 0 (list_of edition1 host q))
   pub copied : guest' ≡ settled (answered host q (length list) (length guest)) guest (put guest 0 (guest_of edition1 host q))

@@ -1,14 +1,11 @@
 -- The paper's number and place for each answer.
-use Rattle.std.specs.Prelude.{ℕ}
+use Rattle.std.specs.Prelude.{ℕ, Result, Ok, Err}
 use Rattle.rules.specs.Outcome.{Outcome, gives, refuses}
 use Rattle.rules.specs.Derivation.{Derived}
 use Rattle.reader.specs.Answers.{inside_number, place_of as readerPlace}
 use Rattle.derive.specs.declared.Refusal.{Refusal}
 use Rattle.derive.specs.declared.Refusal.TheVariants.{NoSpace, Reader, Lists, Configured, Register, Unmet, List, Guest}
-use Rattle.derive.specs.declared.Answer.{Answer}
-use Rattle.derive.specs.declared.Answer.TheVariants.{Derived as Gives, Refused}
-use Rattle.derive.specs.declared.judged.Checked.{Checked}
-use Rattle.derive.specs.declared.judged.Checked.TheVariants.{Nodes, Refused as Stops}
+use Rattle.derive.specs.declared.Derived as lent
 
 abbrev pub number_of : Refusal → ℕ
 number_of NoSpace = 40
@@ -33,10 +30,11 @@ place_of (Guest needed) = needed
 abbrev pub refused : {A : Type 0} → Refusal → Outcome A
 refused r = refuses (number_of r) (place_of r)
 
-abbrev pub meaning : Answer → Outcome Derived
-meaning (Gives paths list guest) = gives (record { paths = paths; list_length = list; guest_length = guest })
-meaning (Refused r) = refused r
+-- an answer of any kind, or a refusal
+abbrev pub checked : {A : Type 0} → Result A Refusal → Outcome A
+checked (Ok a) = gives a
+checked (Err r) = refused r
 
-abbrev pub checked : Checked → Outcome ℕ
-checked (Nodes n) = gives n
-checked (Stops r) = refused r
+abbrev pub meaning : Result lent.Derived Refusal → Outcome Derived
+meaning (Ok d) = gives (record { paths = d.paths; list_length = d.list; guest_length = d.guest })
+meaning (Err r) = refused r

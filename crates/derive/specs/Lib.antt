@@ -3,3 +3,4 @@ pub mod Answers
 pub mod Answered
 pub mod Marked
 pub mod Written
+pub mod Wanted

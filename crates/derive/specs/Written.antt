@@ -1,5 +1,5 @@
 -- Both outputs, of a tree and what is asked of it as nodes.
-use Rattle.std.specs.Prelude.{◌≡◌, Bool, true, false, List, [], map, ℕ, length, drop}
+use Rattle.std.specs.Prelude.{◌≡◌, List, map, ℕ, length, drop, Result}
 use Rattle.rules.specs.Ceilings.{work_words}
 use Rattle.rules.specs.Octets.{Bytes, put}
 use Rattle.rules.specs.Outcome.{Outcome, passes, gives, settled, ◌then◌}
@@ -9,11 +9,10 @@ use Rattle.rules.specs.Tree.{Tree, path, nodes_of}
 use Rattle.rules.specs.References.{edition1}
 use Rattle.rules.specs.Listing.{listed, paths_bytes}
 use Rattle.rules.specs.Copy.{Asked, guest_bytes}
-use Rattle.rules.specs.Written.{blob_of}
 use Rattle.rules.specs.Derivation.{Derived, room_judged}
 use Rattle.rules.specs.Laws.Tabled.{tree_in}
-use Rattle.guest.specs.Walked.{sieved, Ready}
-use Rattle.derive.specs.declared.Answer.{Answer}
+use Rattle.derive.specs.declared.Refusal.{Refusal}
+use Rattle.derive.specs.declared.Derived as lent
 use Rattle.derive.specs.Answers.{meaning}
 
 -- the table is that of a structure that passes
@@ -36,12 +35,7 @@ roomy t es q listRoom guestRoom =
     room_judged (length (list_bytes t q)) (length (copy_bytes t es q)) listRoom guestRoom
     then gives (record { paths = length (paths_of t q); list_length = length (list_bytes t q); guest_length = length (copy_bytes t es q) })
 
--- what becomes of a guest: the copy of the nodes that are marked where it is granted, and else it stays
-pub record Copies (structure strings : Bytes) (ws : List ℕ) (both : Bool) (guest guest' : Bytes) : Type 0 where
-  pub kept : both ≡ false → guest' ≡ guest
-  pub written : both ≡ true → (place : ℕ) → Ready place structure strings ws → guest' ≡ put guest 0 (blob_of [] 0 (sieved place structure strings ws))
-
-pub record Writes (b : Block) (count : ℕ) (q : Asked) (ws vs : List ℕ) (list list' guest guest' : Bytes) (r : Answer) : Type 0 where
+pub record Writes (b : Block) (count : ℕ) (q : Asked) (ws vs : List ℕ) (list list' guest guest' : Bytes) (r : Result lent.Derived Refusal) : Type 0 where
   pub answer : meaning r ≡ roomy (tree_in b ws count) (events_in b) q (length list) (length guest)
   pub listed : list' ≡ settled (roomy (tree_in b ws count) (events_in b) q (length list) (length guest)) list (put list 0 (list_bytes (tree_in b ws count) q))
   pub copied : guest' ≡ settled (roomy (tree_in b ws count) (events_in b) q (length list) (length guest)) guest (put guest 0 (copy_bytes (tree_in b ws count) (events_in b) q))

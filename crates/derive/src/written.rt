@@ -1,88 +1,63 @@
 // Both outputs: measured before either is written, and written only where both have room.
-ghost use Rattle.std.specs.Prelude.{◌≡◌, true, ◌&&◌, min, ◌+◌, ◌≤◌, leb, length};
-ghost use Rattle.rules.specs.Ceilings.{blob_ceiling};
-ghost use Rattle.rules.specs.Blob.{block_of};
+// Block, work space and count are lent side by side: a contract over one `&mut` of the three would have to say besides that block,
+// count and lent slice stay what they were, and so would every caller's.
+ghost use Rattle.std.specs.Prelude.{◌≡◌};
+ghost use Rattle.rules.specs.Derivation.{room_judged};
+ghost use Rattle.rules.specs.Laws.Lent.{block_lent};
 ghost use Rattle.order.specs.Starts.{Asked};
-ghost use Rattle.guest.specs.Measured.{Sized};
-ghost use Rattle.derive.specs.Written.{Whole, Copies, Writes};
+ghost use Rattle.derive.specs.Answers.{checked};
+ghost use Rattle.derive.specs.Written.{Whole, Writes};
+ghost use Rattle.derive.specs.Wanted.{wanted_lent};
 
-use crate::marked::marked;
-use crate::{Answer, Refusal};
-use rules::BLOB_CEILING;
+use crate::marked::{Wanted, marked};
+use crate::{Derived, Refusal};
+use rules::{BLOB_CEILING, Block, Tree};
 use spelled::{list_len, list_out};
 
-// The guest's room: bytes past the ceiling do not count.
-fn room(len: usize) -> usize
-    ensures { result ≡ min len blob_ceiling }
+// Whether list and guest both have their room: of the bytes lent and needed for either, 45 or 46 where too few are lent. Bytes past
+// the ceiling are no room for a guest.
+#[tactic(auto, unfolding(rules::specs::Derivation::room_judged, rules::specs::Ceilings::blob_ceiling))]
+fn granted(list: usize, listed: usize, guest: usize, copied: usize) -> Result<(), Refusal>
+    ensures { checked result ≡ room_judged listed copied list guest }
 {
-    if BLOB_CEILING < len {
-        return BLOB_CEILING;
+    if list < listed {
+        return Err(Refusal::List { needed: listed });
     }
-    len
-}
-
-// Whether list and guest both have their room.
-fn granted(lent: usize, listed: usize, most: usize, copied: usize) -> bool
-    ensures { result ≡ (leb listed lent && leb copied most) }
-{
-    if lent < listed {
-        return false;
+    if guest.min(BLOB_CEILING) < copied {
+        return Err(Refusal::Guest { needed: copied });
     }
-    copied <= most
-}
-
-// Writes the guest, whose sizes were measured, if both outputs are granted their room; else it stays as it is.
-fn guest_out(
-    structure: &[u8],
-    strings: &[u8],
-    work: &[u32],
-    guest: &mut [u8],
-    size: guest::Size,
-    both: bool,
-)
-    requires { both ≡ true → (length structure.now ≤ blob_ceiling) × Sized structure.now strings.now work.now size × (56 + size.structure + 4 + size.strings ≤ length guest.old) }
-    ensures { Copies structure.now strings.now work.now both guest.old guest.new }
-{
-    if both {
-        guest::write(structure, strings, work, guest, size);
-    }
+    Ok(())
 }
 
 // Lists and copies by nodes configured, nodes excluded and ids; answers 45 or 46 where an output has too little room, and writes
 // nothing then.
 pub fn written(
-    structure: &[u8],
-    strings: &[u8],
-    place: usize,
+    block: &Block,
     work: &mut [u32],
     count: usize,
-    conf: &[u32],
-    excl: &[u32],
-    ids: &[u64],
+    wanted: &Wanted,
     list: &mut [u8],
     guest: &mut [u8],
-) -> Answer
-    requires asked { Asked (block_of place structure.now strings.now) work.old count conf.now }
-    requires whole { Whole (block_of place structure.now strings.now) work.old count }
-    ensures { Writes (block_of place structure.now strings.now) count (record { conf = conf.now; excl = excl.now; ids = ids.now }) work.old work.new list.old list.new guest.old guest.new result }
+) -> Result<Derived, Refusal>
+    requires asked { Asked (block_lent block.now) work.old count wanted.now.conf.now }
+    requires whole { Whole (block_lent block.now) work.old count }
+    ensures { Writes (block_lent block.now) count (wanted_lent wanted.now) work.old work.new list.old list.new guest.old guest.new result }
 {
-    let n = marked(structure, strings, place, work, count, conf, excl, ids);
-    let size = guest::measure(structure, strings, work);
-    let listed = list_len(structure, place, work, count, n);
+    let n = marked(block, work, count, wanted);
+    let size = guest::measure(block, work);
+    let tree = Tree {
+        block: *block,
+        work,
+        count,
+    };
+    let listed = list_len(&tree, n);
     let copied = guest::total(size);
-    let most = room(guest.len());
-    let both = granted(list.len(), listed, most, copied);
-    guest_out(structure, strings, work, guest, size, both);
-    if list.len() < listed {
-        return Answer::Refused(Refusal::List { needed: listed });
-    }
-    if most < copied {
-        return Answer::Refused(Refusal::Guest { needed: copied });
-    }
-    list_out(structure, place, work, count, n, list);
-    Answer::Derived {
+    granted(list.len(), listed, guest.len(), copied)?;
+    guest::write(block, work, guest, size);
+    list_out(&tree, n, list);
+    Ok(Derived {
         paths: n,
         list: listed,
         guest: copied,
-    }
+    })
 }

@@ -1,9 +1,10 @@
 // Derives again from a host of which some bytes are changed, and counts the runs whose outcome is not the first one's. The script
 // says which bytes: those that are withheld, and, so that a difference is seen to be one, some that are not.
-use crate::outcome::{TOLD, print_number, put_outcome};
+use crate::outcome::{TOLD, put_outcome};
 use cases::{case, up};
 use std::io;
 use std::io::Write;
+use streams::print_number;
 
 // What stands for all the spans where a run names the byte to change.
 const ALL: u32 = 0xffffffff;
@@ -14,43 +15,34 @@ const CASE: usize = 66000;
 const OUT: usize = TOLD + 66000;
 
 fn changed(b: u8, how: u32) -> u8 {
-    if how == 0 {
-        return 0;
+    match how {
+        0 => 0,
+        1 => 255,
+        _ => b ^ 0x55,
     }
-    if how == 1 {
-        return 255;
-    }
-    b ^ 0x55
 }
 
 fn change(case: &mut [u8], from: usize, n: usize, how: u32) {
-    let mut at = from;
-    for _ in 0..n {
-        let b = changed(octets::byte(case, at), how);
-        octets::put_bytes(case, at, &[b]);
-        at = up(at, 1);
+    for b in case.iter_mut().skip(from).take(n) {
+        *b = changed(*b, how);
     }
 }
 
 // Changes all the spans of the host, each a place and a length.
 fn change_all(case: &mut [u8], spans: &[u8], how: u32) {
     let host = case::start(case, case::FRONT);
-    let mut at = 0;
-    for _ in 0..spans.len() / 8 {
-        let from = octets::word(spans, at) as usize;
-        let n = octets::word(spans, up(at, 4)) as usize;
+    for span in spans.chunks_exact(8) {
+        let from = octets::word(span, 0) as usize;
+        let n = octets::word(span, 4) as usize;
         change(case, up(host, from), n, how);
-        at = up(at, 8);
     }
 }
 
 // How many bytes the spans have.
 fn spanned(spans: &[u8]) -> usize {
     let mut sum = 0;
-    let mut at = 4;
-    for _ in 0..spans.len() / 8 {
-        sum = up(sum, octets::word(spans, at) as usize);
-        at = up(at, 8);
+    for span in spans.chunks_exact(8) {
+        sum = up(sum, octets::word(span, 4) as usize);
     }
     sum
 }
@@ -69,7 +61,7 @@ fn prepare(case: &[u8], other: &mut [u8], k: usize) {
     let at = run_at(case, k);
     let place = octets::word(case, at);
     let how = octets::word(case, up(at, 4));
-    octets::put_bytes(other, 0, case);
+    octets::put(other, 0, case);
     if place == ALL {
         change_all(other, case::part(case, case::SPANS), how);
     } else {

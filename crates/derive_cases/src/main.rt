@@ -8,13 +8,13 @@
 
 mod leak;
 mod outcome;
-mod taken;
 
-use cases::{case, digest, digest_words, up, within_words};
+use cases::{case, digest, digest_words, up, within};
+use casework::take_case;
 use outcome::{TOLD, print_told, put_outcome};
 use std::io;
 use std::io::{Read, Write};
-use streams::print_hex;
+use streams::print_digest;
 
 // Room for the longest host, and for what the rest of a case has at most.
 const CASE: usize = 1048640 + 66000;
@@ -25,11 +25,6 @@ const WORDS: usize = 16400;
 
 // What every word of a work space is before the derivation gets it.
 const FILL: u32 = 0xa5a5a5a5;
-
-fn print_digest<W: Write>(to: &mut W, text: &[u8], digest: u32) -> io::Result<()> {
-    to.write_all(text)?;
-    print_hex(to, digest as u64, 8)
-}
 
 // Prints the answer, and what is left in the buffers, of which the list has so many bytes.
 fn show<W: Write>(to: &mut W, out: &[u8], list: usize, work: &[u32]) -> io::Result<()> {
@@ -52,7 +47,7 @@ fn tell<W: Write>(to: &mut W, case: &[u8], work: &mut [u32], out: &[u8]) -> io::
 
 // Derives on as many words as the case lends.
 fn lent<W: Write>(to: &mut W, case: &[u8], work: &mut [u32], out: &mut [u8]) -> io::Result<()> {
-    let w = within_words(case::number(case, case::WORDS), work);
+    let w = within(case::number(case, case::WORDS), work);
     let words = &mut work[..w];
     put_outcome(case, words, out);
     tell(to, case, words, outcome::outcome(case, out))
@@ -76,7 +71,7 @@ fn next<R: Read, W: Write>(
     out: &mut [u8; OUT],
 ) -> io::Result<bool> {
     let mut work = [FILL; WORDS];
-    if !taken::take_case(input, case)? {
+    if !take_case(input, case)? {
         return Ok(false);
     }
     run(to, case, &mut work, out)?;

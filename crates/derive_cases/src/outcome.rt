@@ -1,10 +1,11 @@
 // What comes of a derivation, in one buffer, so that two outcomes can be compared and one printed: four numbers of 64 bits, and
 // behind them the list and the guest, whole as lent.
-use cases::{case, up, within, within_longs};
-use derive::Answer;
+use cases::{case, up, within};
+use casework::derived;
+use derive::{Derived, Refusal};
 use std::io;
 use std::io::Write;
-use streams::print_decimal;
+use streams::print_number;
 
 // The four numbers: 0, the paths, the bytes of list and guest; or a refusal's number, its place, 0 and 0.
 pub const TOLD: usize = 32;
@@ -19,26 +20,6 @@ const FILL: u8 = 0xa5;
 
 // ---- what is derived
 
-fn with_ids(
-    case: &[u8],
-    ids: &[u64],
-    work: &mut [u32],
-    list: &mut [u8],
-    guest: &mut [u8],
-) -> Answer {
-    let host = case::host(case);
-    let configured = case::part(case, case::CONFIGURED);
-    let excluded = case::part(case, case::EXCLUDED);
-    derive::derive(host, configured, excluded, ids, work, list, guest)
-}
-
-fn derived(case: &[u8], work: &mut [u32], list: &mut [u8], guest: &mut [u8]) -> Answer {
-    let mut ids = [0u64; case::MOST_IDS];
-    case::put_ids(&mut ids, case::part(case, case::IDS));
-    let n = within_longs(case::number(case, case::IDS), &ids);
-    with_ids(case, &ids[..n], work, list, guest)
-}
-
 fn put(told: &mut [u8], number: u64, a: usize, b: usize, c: usize) {
     octets::put_long(told, 0, number);
     octets::put_long(told, 8, a as u64);
@@ -46,15 +27,20 @@ fn put(told: &mut [u8], number: u64, a: usize, b: usize, c: usize) {
     octets::put_long(told, 24, c as u64);
 }
 
-fn put_answer(out: &mut [u8], answer: Answer) {
+fn put_answer(out: &mut [u8], answer: Result<Derived, Refusal>) {
     match answer {
-        Answer::Derived { paths, list, guest } => put(out, 0, paths, list, guest),
-        Answer::Refused(refusal) => put(out, told::number(refusal), told::place(refusal), 0, 0),
+        Ok(derived) => put(out, 0, derived.paths, derived.list, derived.guest),
+        Err(refusal) => put(out, told::number(refusal), told::place(refusal), 0, 0),
     }
 }
 
 // Lends as much of the two buffers as the case says.
-fn lent(case: &[u8], work: &mut [u32], list: &mut [u8], guest: &mut [u8]) -> Answer {
+fn lent(
+    case: &[u8],
+    work: &mut [u32],
+    list: &mut [u8],
+    guest: &mut [u8],
+) -> Result<Derived, Refusal> {
     let l = within(case::number(case, case::LIST), list);
     let g = within(case::number(case, case::GUEST), guest);
     derived(case, work, &mut list[..l], &mut guest[..g])
@@ -62,8 +48,8 @@ fn lent(case: &[u8], work: &mut [u32], list: &mut [u8], guest: &mut [u8]) -> Ans
 
 // Puts the buffers, of which the list has so many bytes.
 fn put_buffers(out: &mut [u8], list: &[u8], guest: &[u8], n: usize) {
-    octets::put_bytes(out, TOLD, octets::part(list, 0, n));
-    octets::put_bytes(out, up(TOLD, n), guest);
+    octets::put(out, TOLD, octets::part(list, 0, n));
+    octets::put(out, up(TOLD, n), guest);
 }
 
 // Derives, and puts the outcome.
@@ -90,13 +76,6 @@ pub fn put_outcome(case: &[u8], work: &mut [u32], out: &mut [u8]) {
 pub fn outcome<'a>(case: &'a [u8], out: &'a [u8]) -> &'a [u8] {
     let list = case::number(case, case::LIST);
     octets::part(out, 0, up(up(TOLD, list), case::number(case, case::GUEST)))
-}
-
-// ---- what is printed
-
-pub fn print_number<W: Write>(to: &mut W, text: &[u8], n: u64) -> io::Result<()> {
-    to.write_all(text)?;
-    print_decimal(to, n)
 }
 
 // Prints an outcome's numbers.

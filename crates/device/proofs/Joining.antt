@@ -1,8 +1,10 @@
 -- The parts joined: what the reader says, what is judged, and what is written.
+use Rattle.std.specs.Prelude.{Result}
 use mathlib.Core.Path.{◌≡◌, refl, sym, ap, ap₂, ◌∙◌}
 use mathlib.Core.List.{List}
 use Prim.Native.Nat.{ℕ, ◌≤◌}
-use lib.ListN.{length, take}
+use native.Mathlib.Omega.{arith}
+use lib.ListN.{length, take, length-take}
 use Rattle.rules.specs.Ceilings.{entry_ceiling}
 use Rattle.rules.specs.Octets.{Bytes, put, lay}
 use Rattle.rules.specs.Outcome.{Outcome, passes, gives, settled, ◌then◌}
@@ -13,7 +15,7 @@ use Rattle.rules.specs.Reader.{tree_read, blob_judged, space_judged, read, read_
 use Rattle.rules.specs.References.{edition1}
 use Rattle.rules.specs.Derivation.{Request, given, nodes_named, asked, lists_judged, configured_judged, listed_paths, list_of}
 use Rattle.rules.specs.Device.{wanted, Found, find, find_list, find_work}
-use Rattle.rules.proofs.Laws.Verdicts.{passes_then, then_then}
+use Rattle.rules.proofs.Laws.Verdicts.{passes_then, then_then, then_gives}
 use Rattle.rules.specs.Laws.Host.{HostRead}
 use Rattle.rules.proofs.Laws.Host.{kept_in, tree_in_lem, read_refuses, read_passes, space_left}
 use Rattle.rules.specs.Laws.Tabled.{tree_in}
@@ -24,8 +26,7 @@ use Rattle.asked.proofs.Judged.{granted, refused_so}
 use Rattle.reader.specs.declared.Refusal.{Refusal as ReaderRefusal}
 use Rattle.reader.specs.Answers.{number_of as readerNumber, place_of as readerPlace, refused as read_refused}
 use Rattle.device.specs.declared.Refusal.{Refusal}
-use Rattle.device.specs.declared.Answer.{Answer}
-use Rattle.device.specs.declared.judged.Checked.{Checked}
+use Rattle.device.specs.declared.Listed.{Listed}
 use Rattle.device.specs.Answers.{number_of, place_of, refused, meaning, checked}
 use Rattle.device.specs.Answered.{wanted_judged, Checks, answered, Accepts}
 use Rattle.device.specs.Written.{paths_of, roomy, Writes}
@@ -46,9 +47,9 @@ module _ (host : Bytes) (ws : List ℕ) (count : ℕ) (read : HostRead host ws c
   judged_is : wanted_judged (tree_read host) configured excluded ≡ wanted_judged t configured excluded
   judged_is = ap (λ (u : Tree). wanted_judged u configured excluded) (sym tree_is)
 
-  module _ (old new : List ℕ) (r : Checked) (c : Checks t configured excluded old new r) where
+  module _ (old new : List ℕ) (r : Result ℕ Refusal) (c : Checks t configured excluded old new r) where
     -- refused
-    pub accepts_not : (refusal : Refusal) → checked r ≡ refused refusal → (a : Answer) → meaning a ≡ refused refusal → (list : Bytes) → Accepts host configured excluded ws ws list list a
+    pub accepts_not : (refusal : Refusal) → checked r ≡ refused refusal → (a : Result Listed Refusal) → meaning a ≡ refused refusal → (list : Bytes) → Accepts host configured excluded ws ws list list a
     accepts_not refusal e a f list =
         let v : wanted_judged t configured excluded ≡ refused refusal = refused_so (wanted_so t configured excluded) old new (checked r) c (number_of refusal) (place_of refusal) e in
         let w : wanted_judged (tree_read host) configured excluded ≡ refused refusal = judged_is ∙ v in
@@ -64,6 +65,10 @@ module _ (host : Bytes) (ws : List ℕ) (count : ℕ) (read : HostRead host ws c
       conf-is : take n new ≡ (asked (frame t) q).conf
       conf-is = lists.conf-is (wanted_so t configured excluded) old new (checked r) c n e room
 
+      -- and are no more than the array has
+      pub conf-fits : n ≤ length new
+      conf-fits = omega (arith, (then_gives (wanted_judged t configured excluded) n _ (sym e ∙ c.answer)).1, ap length conf-is, length-take n new)
+
       passed : wanted_judged t configured excluded ≡ passes
       passed = lists.passed (wanted_so t configured excluded) old new (checked r) c n e
 
@@ -73,6 +78,10 @@ module _ (host : Bytes) (ws : List ℕ) (count : ℕ) (read : HostRead host ws c
       module _ (zeroed excl : List ℕ) (m : ℕ) (wide : entry_ceiling ≤ length zeroed) (f : m ≡ length (nodes_named (frame t) (given excluded))) (g : excl ≡ lay zeroed 0 (nodes_named (frame t) (given excluded))) where
         excl-is : take m excl ≡ (asked (frame t) q).excl
         excl-is = lists.excl-is (wanted_so t configured excluded) old new (checked r) c n e zeroed excl m wide f g
+
+        pub excl-fits : m ≤ length excl
+        unfolding asked
+        excl-fits = omega (arith, f, ap length excl-is, length-take m excl)
 
         -- what is written is what the host and the lists say
         paths-are : paths_of t (take n new) (take m excl) ≡ listed_paths edition1 (tree_read host) q
@@ -85,7 +94,7 @@ module _ (host : Bytes) (ws : List ℕ) (count : ℕ) (read : HostRead host ws c
             ap (λ (ps : List Bytes). roomy ps lr) paths-are
             ∙ sym (passes_then (wanted_judged (tree_read host) configured excluded) (roomy (listed_paths edition1 (tree_read host) q) lr) (judged_is ∙ passed))
 
-        pub accepts : (vs : List ℕ) (list list' : Bytes) (a : Answer) → Writes b count (take n new) (take m excl) ws vs list list' a → Accepts host configured excluded ws vs list list' a
+        pub accepts : (vs : List ℕ) (list list' : Bytes) (a : Result Listed Refusal) → Writes b count (take n new) (take m excl) ws vs list list' a → Accepts host configured excluded ws vs list list' a
         unfolding list_of
         accepts vs list list' a w = record {
           answer = w.answer ∙ answered-is (length list);

@@ -1,5 +1,5 @@
 -- Two answers that say the same are the same: the meaning of an answer gives it back.
-use Rattle.std.specs.Prelude.{if◌then◌else◌}
+use Rattle.std.specs.Prelude.{if◌then◌else◌, Result, Ok, Err}
 use mathlib.Core.Path.{◌≡◌, refl, sym, ap, ◌∙◌}
 use Prim.Native.Nat.{ℕ}
 use lib.Dec.{eqb, leb}
@@ -10,8 +10,7 @@ use Rattle.rules.specs.Device.{Found, find}
 use Rattle.reader.proofs.Unique as reader
 use Rattle.device.specs.declared.Refusal.{Refusal}
 use Rattle.device.specs.declared.Refusal.TheVariants.{NoSpace, Reader, Lists, Configured, List}
-use Rattle.device.specs.declared.Answer.{Answer}
-use Rattle.device.specs.declared.Answer.TheVariants.{Listed, Refused}
+use Rattle.device.specs.declared.Listed.{Listed}
 use Rattle.device.specs.Answers.{number_of, place_of, meaning}
 
 refusal_of : (number place : ℕ) → Refusal
@@ -30,19 +29,19 @@ refusal_back (Lists place) = refl
 refusal_back (Configured place) = refl
 refusal_back (List place) = refl
 
-answer_of : Outcome Found → Answer
-answer_of (gives d) = Listed d.paths d.list_length
-answer_of (refuses number place) = Refused (refusal_of number place)
+answer_of : Outcome Found → Result Listed Refusal
+answer_of (gives d) = Ok (record { paths = d.paths; list = d.list_length })
+answer_of (refuses number place) = Err (refusal_of number place)
 
-back : (a : Answer) → answer_of (meaning a) ≡ a
+back : (a : Result Listed Refusal) → answer_of (meaning a) ≡ a
 unfolding answer_of
-back (Listed paths list) = refl
-back (Refused r) = ap Refused (refusal_back r)
+back (Ok l) = refl
+back (Err r) = ap Err (refusal_back r)
 
-pub meaning_injective : (a c : Answer) → meaning a ≡ meaning c → a ≡ c
+pub meaning_injective : (a c : Result Listed Refusal) → meaning a ≡ meaning c → a ≡ c
 meaning_injective a c e = sym (back a) ∙ ap answer_of e ∙ back c
 
 -- ANY TWO RESULTS THAT THE PROMISE ALLOWS ARE EQUAL
-pub one_answer : (host configured excluded : Bytes) (words listRoom : ℕ) (a c : Answer) → meaning a ≡ find edition1 host configured excluded words listRoom
+pub one_answer : (host configured excluded : Bytes) (words listRoom : ℕ) (a c : Result Listed Refusal) → meaning a ≡ find edition1 host configured excluded words listRoom
     → meaning c ≡ find edition1 host configured excluded words listRoom → a ≡ c
 one_answer host configured excluded words listRoom a c p r = meaning_injective a c (p ∙ sym r)

@@ -1,4 +1,5 @@
 -- The list, measured and written.
+use Rattle.std.specs.Prelude.{Result}
 use mathlib.Core.Path.{◌≡◌, sym, ap, ap₂, ◌∙◌}
 use mathlib.Core.List.{List, map}
 use Prim.Native.Nat.{ℕ, ◌≤◌, ◌<◌}
@@ -19,7 +20,8 @@ use Rattle.rules.proofs.Laws.Device.{list_short, list_fits}
 use Rattle.order.specs.Starts.{Asked}
 use Rattle.listing.specs.Lists.{Lists}
 use Rattle.spelled.specs.Lists.{list_bytes}
-use Rattle.device.specs.declared.Answer.{Answer}
+use Rattle.device.specs.declared.Refusal.{Refusal}
+use Rattle.device.specs.declared.Listed.{Listed}
 use Rattle.device.specs.Answers.{meaning}
 use Rattle.device.specs.Written.{paths_of, Writes}
 
@@ -40,7 +42,7 @@ module _ (b : Block) (count : ℕ) (conf excl ws : List ℕ) (a : Asked b ws cou
     length_list : needed ≡ length (paths_bytes ps)
     length_list = m ∙ ap length bytes_are
 
-    pub writes_45 : length list < needed → (r : Answer) → meaning r ≡ refuses 45 needed → Writes b count conf excl ws vs list list r
+    pub writes_45 : length list < needed → (r : Result Listed Refusal) → meaning r ≡ refuses 45 needed → Writes b count conf excl ws vs list list r
     writes_45 h r f =
         let e : list_room_judged (length (paths_bytes ps)) (length list) ≡ refuses 45 needed = rw (← length_list) (list_short needed (length list) h) in
         record {
@@ -50,7 +52,7 @@ module _ (b : Block) (count : ℕ) (conf excl ws : List ℕ) (a : Asked b ws cou
           rest = only_drop work_words (omega arith) l.apart;
         }
 
-    pub writes_list : needed ≤ length list → (list' : Bytes) → list' ≡ lay list 0 (list_bytes (tree_in b vs count) vs n) → (r : Answer) → meaning r ≡ gives (record { paths = n; list_length = needed }) → Writes b count conf excl ws vs list list' r
+    pub writes_list : needed ≤ length list → (list' : Bytes) → list' ≡ lay list 0 (list_bytes (tree_in b vs count) vs n) → (r : Result Listed Refusal) → meaning r ≡ gives (record { paths = n; list_length = needed }) → Writes b count conf excl ws vs list list' r
     writes_list h list' p r f =
         let e : list_room_judged (length (paths_bytes ps)) (length list) ≡ passes = rw (← length_list) (list_fits needed (length list) h) in
         record {

@@ -1,14 +1,11 @@
 -- The paper's number and place for each answer.
-use Rattle.std.specs.Prelude.{ℕ}
+use Rattle.std.specs.Prelude.{ℕ, Result, Ok, Err}
 use Rattle.rules.specs.Outcome.{Outcome, gives, refuses}
 use Rattle.rules.specs.Device.{Found}
 use Rattle.reader.specs.Answers.{inside_number, place_of as readerPlace}
 use Rattle.device.specs.declared.Refusal.{Refusal}
 use Rattle.device.specs.declared.Refusal.TheVariants.{NoSpace, Reader, Lists, Configured, List}
-use Rattle.device.specs.declared.Answer.{Answer}
-use Rattle.device.specs.declared.Answer.TheVariants.{Listed, Refused}
-use Rattle.device.specs.declared.judged.Checked.{Checked}
-use Rattle.device.specs.declared.judged.Checked.TheVariants.{Nodes, Refused as Stops}
+use Rattle.device.specs.declared.Listed.{Listed}
 
 abbrev pub number_of : Refusal → ℕ
 number_of NoSpace = 40
@@ -27,10 +24,10 @@ place_of (List needed) = needed
 abbrev pub refused : {A : Type 0} → Refusal → Outcome A
 refused r = refuses (number_of r) (place_of r)
 
-abbrev pub meaning : Answer → Outcome Found
-meaning (Listed paths list) = gives (record { paths = paths; list_length = list })
-meaning (Refused r) = refused r
+abbrev pub meaning : Result Listed Refusal → Outcome Found
+meaning (Ok l) = gives (record { paths = l.paths; list_length = l.list })
+meaning (Err r) = refused r
 
-abbrev pub checked : Checked → Outcome ℕ
-checked (Nodes n) = gives n
-checked (Stops r) = refused r
+abbrev pub checked : Result ℕ Refusal → Outcome ℕ
+checked (Ok n) = gives n
+checked (Err r) = refused r

@@ -1,5 +1,5 @@
 -- The list, of a tree and what is asked of it as nodes.
-use Rattle.std.specs.Prelude.{◌≡◌, List, map, ℕ, length, drop}
+use Rattle.std.specs.Prelude.{◌≡◌, List, map, ℕ, length, drop, Result}
 use Rattle.rules.specs.Ceilings.{work_words}
 use Rattle.rules.specs.Octets.{Bytes, put}
 use Rattle.rules.specs.Outcome.{Outcome, gives, settled, ◌then◌}
@@ -9,7 +9,8 @@ use Rattle.rules.specs.References.{edition1}
 use Rattle.rules.specs.Listing.{listed, paths_bytes}
 use Rattle.rules.specs.Device.{Found, list_room_judged}
 use Rattle.rules.specs.Laws.Tabled.{tree_in}
-use Rattle.device.specs.declared.Answer.{Answer}
+use Rattle.device.specs.declared.Refusal.{Refusal}
+use Rattle.device.specs.declared.Listed.{Listed}
 use Rattle.device.specs.Answers.{meaning}
 
 abbrev pub paths_of : Tree → (conf excl : List ℕ) → List Bytes
@@ -20,7 +21,7 @@ abbrev pub roomy : List Bytes → (listRoom : ℕ) → Outcome Found
 roomy paths listRoom =
     list_room_judged (length (paths_bytes paths)) listRoom then gives (record { paths = length paths; list_length = length (paths_bytes paths) })
 
-pub record Writes (b : Block) (count : ℕ) (conf excl : List ℕ) (ws vs : List ℕ) (list list' : Bytes) (r : Answer) : Type 0 where
+pub record Writes (b : Block) (count : ℕ) (conf excl : List ℕ) (ws vs : List ℕ) (list list' : Bytes) (r : Result Listed Refusal) : Type 0 where
   pub answer : meaning r ≡ roomy (paths_of (tree_in b ws count) conf excl) (length list)
   pub listed : list' ≡ settled (roomy (paths_of (tree_in b ws count) conf excl) (length list)) list (put list 0 (paths_bytes (paths_of (tree_in b ws count) conf excl)))
   pub size : length vs ≡ length ws

@@ -2,11 +2,12 @@
 // of the list's room and of the work space at return. tools/device_cases.py says what is expected.
 #![tactic(auto)]
 
-use cases::{within, within_words};
-use device::{Answer, Refusal, find_all_passthrough_devices};
+use cases::within;
+use device::{Listed, Refusal, find_all_passthrough_devices};
 use std::io;
 use std::io::Write;
-use streams::{print_decimal, print_hex, read_full};
+use streams::{print_digest, print_number, read_full};
+use told::told_of_list;
 
 // Room for the host, for the most words that a case lends, and for the longest list.
 const HOST: usize = 512;
@@ -20,44 +21,18 @@ const LIST_FILL: u8 = 0x5a;
 
 const WORK_FILL: u32 = 0xa5a5a5a5;
 
-fn column<W: Write>(out: &mut W, label: &[u8], n: u64) -> io::Result<()> {
-    out.write_all(label)?;
-    print_decimal(out, n)
-}
-
-fn refused<W: Write>(out: &mut W, number: u64, place: usize) -> io::Result<()> {
-    column(out, b": refused ", number)?;
-    column(out, b" at ", place as u64)
-}
-
-fn tell_reader<W: Write>(out: &mut W, refusal: reader::Refusal) -> io::Result<()> {
-    let t = reader::told(refusal);
-    refused(out, t.number, t.place)
-}
-
-fn tell_refusal<W: Write>(out: &mut W, refusal: Refusal) -> io::Result<()> {
-    match refusal {
-        Refusal::NoSpace => refused(out, 40, 0),
-        Refusal::Reader(e) => tell_reader(out, e),
-        Refusal::Lists { at } => refused(out, 41, at),
-        Refusal::Configured { at } => refused(out, 42, at),
-        Refusal::List { needed } => refused(out, 45, needed),
-    }
-}
-
-fn tell<W: Write>(out: &mut W, answer: Answer) -> io::Result<()> {
+fn tell<W: Write>(out: &mut W, answer: Result<Listed, Refusal>) -> io::Result<()> {
     match answer {
-        Answer::Listed { paths, list } => {
-            column(out, b": paths ", paths as u64)?;
-            column(out, b" list ", list as u64)
+        Ok(listed) => {
+            print_number(out, b": paths ", listed.paths as u64)?;
+            print_number(out, b" list ", listed.list as u64)
         }
-        Answer::Refused(refusal) => tell_refusal(out, refusal),
+        Err(refusal) => {
+            let told = told_of_list(refusal);
+            print_number(out, b": refused ", told.number)?;
+            print_number(out, b" at ", told.place as u64)
+        }
     }
-}
-
-fn print_digest<W: Write>(out: &mut W, label: &[u8], h: u32) -> io::Result<()> {
-    out.write_all(label)?;
-    print_hex(out, h as u64, 8)
 }
 
 fn left<W: Write>(out: &mut W, list: &[u8], work: &[u32]) -> io::Result<()> {
@@ -68,12 +43,7 @@ fn left<W: Write>(out: &mut W, list: &[u8], work: &[u32]) -> io::Result<()> {
 
 // Where the first bar of a case's text is; its length where there is none.
 fn bar(text: &[u8]) -> usize {
-    for (i, x) in text.iter().enumerate() {
-        if *x == b'|' {
-            return i;
-        }
-    }
-    text.len()
+    text.iter().position(|x| *x == b'|').unwrap_or(text.len())
 }
 
 fn before(text: &[u8]) -> &[u8] {
@@ -109,7 +79,7 @@ fn lend<W: Write>(
     list: &mut [u8],
 ) -> io::Result<()> {
     let mut work = [WORK_FILL; WORDS];
-    let n = within_words(words, &work);
+    let n = within(words, &work);
     ask(out, host, lists, &mut work[..n], list)
 }
 

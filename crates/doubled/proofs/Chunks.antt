@@ -1,17 +1,16 @@
 -- A chunk of names in byte order: how it is searched, and how it grows.
 use mathlib.Core.Path.{◌≡◌, refl, sym, ap, ap₂, ◌∙◌, subst}
 use mathlib.Core.Logic.{◌⊎◌, inl, inr}
-use mathlib.Core.Bool.{Bool, true, false, ◌&&◌, ◌||◌}
+use mathlib.Core.Bool.{Bool, true, false, ◌||◌}
 use mathlib.Core.List.{List, [], ◌∷◌}
 use Prim.Native.Nat.{ℕ, zero, suc, ◌+◌, ◌-◌, ◌≤◌, ◌<◌}
-use native.Mathlib.Numerals.{add-one}
 use native.Mathlib.Omega.{arith}
-use lib.Dec.{eqb, ltb}
-use lib.ListN.{length, get_or, set, take, drop, drop_of_length-le}
-use lib.Seq.{ext_get_or, take-nil, drop-cons, get_or-set_same, get_or-set_other}
+use lib.Dec.{eqb}
+use lib.ListN.{length, get_or, take, drop}
+use lib.Seq.{ext_get_or, take-nil}
 use borrow.Author.Tests.{eq-eqb, ne_eqb, lt-ltb, le-ltb, eqb-true, eqb-false}
 use Rattle.rules.specs.Ceilings.{work_words}
-use Rattle.rules.specs.Octets.{Bytes, before, same, byte_at, zeros, lay}
+use Rattle.rules.specs.Octets.{Bytes, before, same, zeros, lay}
 use Rattle.rules.specs.Events.{Property, string_at}
 use Rattle.rules.specs.Outcome.{refuses, passes}
 use Rattle.rules.specs.Tree.{named, doubled_props}
@@ -20,76 +19,84 @@ use Rattle.rules.proofs.Laws.Octets.{same_eq, eq_same}
 use Rattle.rules.specs.Laws.Kept.{Only}
 use Rattle.rules.proofs.Laws.Kept.{only_zeros, zeros_at}
 use Rattle.rules.proofs.Laws.Order.{before_irrefl, before_trans, before_total}
-use Rattle.doubled.specs.Sorted.{chunk_start, chunk_room, key_at, key_below, Ordered, Between, Fresh, Finds, Inserted, Framed}
+use Rattle.doubled.specs.Sorted.{chunk_start, chunk_room, key_at, key_below, Ordered, Fresh, Finds, Inserted, Framed}
 use Rattle.doubled.specs.Passes.{props_at}
 use Rattle.doubled.specs.Props.{Full, Twin, Builds, Clear}
-use Rattle.doubled.specs.declared.sorted.Spot.{Spot}
-use Rattle.doubled.specs.declared.sorted.Spot.TheVariants.{Taken, Free}
+use Rattle.std.specs.Prelude.{Result, Ok, Err}
+use Rattle.std.specs.Result.{is_ok}
+use Rattle.std.specs.Ordering.{is_lt, is_gt, ordering_index, nat_cmp}
+use Rattle.std.specs.declared.cmp.Ordering.{Ordering}
+use Rattle.std.specs.declared.cmp.Ordering.TheVariants.{Less, Equal, Greater}
+use Rattle.std.specs.Cmp.Lexicographic.{slice_cmp}
+use Rattle.std.specs.List.Sorted.{IsBinarySearchResult, IsSearchInRange, IsNonDecreasingBy, IsPartitionPoint}
+use Rattle.std.proofs.lemmas.List.{length-take-le, get_or-take, get_or-drop}
+use Rattle.std.proofs.lemmas.Grind.{get_or_default_zero}
+use lib.ListN.{length-drop}
 use Rattle.doubled.specs.declared.props.Built as builts
 use Rattle.doubled.specs.declared.props.Built.TheVariants as built
 use Rattle.doubled.proofs.Doubles.{Next, judged_none, props_fault, props_go}
 
--- ---- byte order, byte for byte
+-- ---- byte order
 
-module _ (a b : Bytes) (i : ℕ) where
-  before_ends : length a ≤ i → i < length b → before (drop i a) (drop i b) ≡ true
-  unfolding before
-  before_ends h k = rw (drop_of_length-le a h, drop-cons b i 0 k)
-
-  before_step : i < length a → i < length b → before (drop i a) (drop i b) ≡ ltb (byte_at a i) (byte_at b i) || (eqb (byte_at a i) (byte_at b i) && before (drop (i + 1) a) (drop (i + 1) b))
-  unfolding before
-  before_step h k = rw (add-one, drop-cons a i 0 h, drop-cons b i 0 k)
-
-  before_less : i < length a → i < length b → byte_at a i < byte_at b i → before (drop i a) (drop i b) ≡ true
-  before_less h k l = before_step h k ∙ rw (lt-ltb (byte_at a i) (byte_at b i) l)
-
-  before_more : i < length a → i < length b → byte_at b i < byte_at a i → before (drop i a) (drop i b) ≡ false
-  before_more h k l = before_step h k ∙ rw (le-ltb (byte_at a i) (byte_at b i) (omega arith), ne_eqb (byte_at a i) (byte_at b i) (λ e. omega arith))
-
-  before_same : i < length a → i < length b → byte_at a i ≡ byte_at b i → before (drop i a) (drop i b) ≡ before (drop (i + 1) a) (drop (i + 1) b)
-  before_same h k e = before_step h k ∙ rw (le-ltb (byte_at a i) (byte_at b i) (omega arith), eq-eqb (byte_at a i) (byte_at b i) e)
-
-before_nothing : (a : Bytes) → before a [] ≡ false
+-- the order of slices is this one, as it is asked of their bytes
+order_less : (a b : Bytes) → before a b ≡ is_lt (slice_cmp nat_cmp a b)
 unfolding before
-before_nothing [] = refl
-before_nothing (x ∷ a) = refl
+order_less [] [] = refl
+order_less [] (y ∷ b) = refl
+order_less (x ∷ a) [] = refl
+order_less (x ∷ a) (y ∷ b) =
+    by_le y x
+    (λ h. by_test (eqb x y) (λ e. rw (le-ltb x y h, e) (order_less a b)) (λ e. rw (le-ltb x y h, e)))
+    (λ h. rw (lt-ltb x y h))
 
-before_done : (a b : Bytes) (i : ℕ) → length b ≤ i → before (drop i a) (drop i b) ≡ false
-before_done a b i h = ap (before (drop i a)) (drop_of_length-le b h) ∙ before_nothing (drop i a)
+order_greater : (a b : Bytes) → before b a ≡ is_gt (slice_cmp nat_cmp a b)
+unfolding before
+order_greater [] [] = refl
+order_greater [] (y ∷ b) = refl
+order_greater (x ∷ a) [] = refl
+order_greater (x ∷ a) (y ∷ b) =
+    by_le y x
+    (λ h. by_test (eqb x y)
+    (λ e. let p : y ≡ x = sym (eqb-true x y e) in rw (le-ltb x y h, e, le-ltb y x (omega arith), eq-eqb y x p) (order_greater a b))
+    (λ e. let ne = eqb-false x y e in rw (le-ltb x y h, e, lt-ltb y x (omega arith))))
+    (λ h. rw (lt-ltb x y h, le-ltb y x (omega arith), ne_eqb y x (λ e. omega arith)))
 
-pub comes_ends : (a b : Bytes) (i : ℕ) → before a b ≡ before (drop i a) (drop i b) → length a ≤ i → i < length b → true ≡ before a b
-comes_ends a b i e h k = sym (e ∙ before_ends a b i h k)
+order_equal : (a b : Bytes) → slice_cmp nat_cmp a b ≡ Equal → a ≡ b
+order_equal a b e = before_total a b (order_less a b ∙ ap is_lt e) (order_greater a b ∙ ap is_gt e)
 
-pub comes_less : (a b : Bytes) (i : ℕ) → before a b ≡ before (drop i a) (drop i b) → i < length a → i < length b → byte_at a i < byte_at b i → true ≡ before a b
-comes_less a b i e h k l = sym (e ∙ before_less a b i h k l)
+order_behind : (a x : Bytes) → before x a ≡ true → slice_cmp nat_cmp a x ≡ Greater
+order_behind a x h = by (slice_cmp nat_cmp a x) (sym (order_greater a x) ∙ h)
+  where
+    by : (o : Ordering) → is_gt o ≡ true → o ≡ Greater
+    by Less e = never true refl (sym e)
+    by Equal e = never true refl (sym e)
+    by Greater e = refl
 
-pub comes_more : (a b : Bytes) (i : ℕ) → before a b ≡ before (drop i a) (drop i b) → i < length a → i < length b → byte_at b i < byte_at a i → false ≡ before a b
-comes_more a b i e h k l = sym (e ∙ before_more a b i h k l)
+-- what comes before another stands no later to x
+order_rises : (a b x : Bytes) → before a b ≡ true → ordering_index (slice_cmp nat_cmp a x) ≤ ordering_index (slice_cmp nat_cmp b x)
+order_rises a b x h = by (slice_cmp nat_cmp a x) refl
+  where
+    last : before x b ≡ true → (o : Ordering) → ordering_index o ≤ ordering_index (slice_cmp nat_cmp b x)
+    last k Less = omega arith
+    last k Equal = rw (order_behind b x k) (omega arith)
+    last k Greater = rw (order_behind b x k) (omega arith)
 
-pub comes_same : (a b : Bytes) (i : ℕ) → before a b ≡ before (drop i a) (drop i b) → i < length a → i < length b → byte_at a i ≡ byte_at b i → before a b ≡ before (drop (i + 1) a) (drop (i + 1) b)
-comes_same a b i e h k l = e ∙ before_same a b i h k l
-
-pub comes_done : (a b : Bytes) (i : ℕ) → before a b ≡ before (drop i a) (drop i b) → length b ≤ i → false ≡ before a b
-comes_done a b i e h = sym (e ∙ before_done a b i h)
+    by : (o : Ordering) → slice_cmp nat_cmp a x ≡ o → ordering_index o ≤ ordering_index (slice_cmp nat_cmp b x)
+    by Less e = omega arith
+    by Equal e = last (ap (λ (l : Bytes). before l b) (sym (order_equal a x e)) ∙ h) Equal
+    by Greater e = last (before_trans x a b (order_greater a x ∙ ap is_gt e) h) Greater
 
 -- ---- searching
+
+-- how the name that a word says stands to x
+abbrev pub stands : (strings x : Bytes) → ℕ → Ordering
+stands strings x v = slice_cmp nat_cmp (string_at strings v) x
 
 module _ (strings : Bytes) (w : List ℕ) where
   abbrev key : ℕ → Bytes
   key i = key_at strings w i
 
-  -- all up to one that comes before x do, and all from one on that does not do not
-  pub lower_more : (n m : ℕ) (x : Bytes) → Ordered strings w n → m < n → before (key m) x ≡ true → (i : ℕ) → i < m + 1 → before (key i) x ≡ true
-  lower_more n m x o h b i k = by_test (eqb i m)
-      (λ e. ap (λ (j : ℕ). before (key j) x) (eqb-true i m e) ∙ b)
-      (λ e. before_trans (key i) (key m) x (o i m (let ne = eqb-false i m e in omega arith) h) b)
-
-  pub upper_more : (n m : ℕ) (x : Bytes) → Ordered strings w n → before (key m) x ≡ false → (i : ℕ) → m ≤ i → i < n → before (key i) x ≡ false
-  upper_more n m x o b i h k = by_test (eqb i m)
-      (λ e. ap (λ (j : ℕ). before (key j) x) (eqb-true i m e) ∙ b)
-      (λ e. not_passed (before (key i) x) (λ t. never (before (key m) x) (before_trans (key m) (key i) x (o m i (let ne = eqb-false i m e in omega arith) k) t) b))
-
-  pub key_hit : (n i : ℕ) (x : Bytes) → i < n → same x (key i) ≡ true → key_below strings w n x ≡ true
+  key_hit : (n i : ℕ) (x : Bytes) → i < n → same x (key i) ≡ true → key_below strings w n x ≡ true
   unfolding key_below
   key_hit zero i x h e = absurd (let z : ⊥ = omega arith in z)
   key_hit (suc n) i x h e = by_test (eqb i n)
@@ -97,7 +104,7 @@ module _ (strings : Bytes) (w : List ℕ) where
       (λ t. or_right (same x (key n)) _ (key_hit n i x (let ne = eqb-false i n t in omega arith) e))
 
   -- one of them, where x is among them
-  pub key_find : (n : ℕ) (x : Bytes) → key_below strings w n x ≡ true → (i : ℕ) × (i < n) × (same x (key i) ≡ true)
+  key_find : (n : ℕ) (x : Bytes) → key_below strings w n x ≡ true → (i : ℕ) × (i < n) × (same x (key i) ≡ true)
   unfolding key_below
   key_find zero x e = never true refl (sym e)
   key_find (suc n) x e = elim (or_cases (same x (key n)) (key_below strings w n x) e) [
@@ -105,80 +112,54 @@ module _ (strings : Bytes) (w : List ℕ) where
     | inr t ↦ let r = key_find n x t in (r.0, omega (arith, r.1), r.2)
   ]
 
-  module _ (n : ℕ) (x : Bytes) (r : ℕ) (o : Ordered strings w n) (b : Between strings w n x r) (other : r < n → same x (key r) ≡ false) where
-    absent : (i : ℕ) → i < n → same x (key i) ≡ true → ⊥
-    absent i h t =
-        let e : x ≡ key i = same_eq x (key i) t in
-        by_le r i
-        (λ k. by_test (eqb i r)
-        (λ q. let p : i ≡ r = eqb-true i r q in never (same x (key r)) (ap (λ (j : ℕ). same x (key j)) (sym p) ∙ t) (other (omega arith)))
-        (λ q. let ne = eqb-false i r q in
-        never (before (key r) x) (ap (before (key r)) e ∙ o r i (omega arith) h) (b.upper r (omega arith) (omega arith))))
-        (λ k. before_irrefl x (ap (λ (l : Bytes). before l x) e ∙ b.lower i k))
+  module _ (n : ℕ) (x : Bytes) (room : chunk_start + n ≤ length w) (o : Ordered strings w n) where
+    abbrev words : List ℕ
+    words = take (chunk_start + n - chunk_start) (drop chunk_start w)
 
-    missing : key_below strings w n x ≡ false
-    missing = not_passed (key_below strings w n x) (λ t. let f = key_find n x t in absent f.0 f.1 f.2)
+    count : length words ≡ n
+    count = length-take-le (chunk_start + n - chunk_start) (drop chunk_start w) (omega (arith, length-drop chunk_start w)) ∙ omega arith
 
-    pub fresh_at : Fresh strings w n x r
-    fresh_at =
+    said : (i d : ℕ) → i < n → string_at strings (get_or words i d) ≡ key i
+    said i d h = ap (string_at strings) (get_or_default_zero words i d (omega (arith, count)) ∙ get_or-take (chunk_start + n - chunk_start) (drop chunk_start w) i 0 (omega arith) ∙ get_or-drop chunk_start w i 0)
+
+    stood : (i d : ℕ) → i < n → stands strings x (get_or words i d) ≡ slice_cmp nat_cmp (key i) x
+    stood i d h = ap (λ (l : Bytes). slice_cmp nat_cmp l x) (said i d h)
+
+    rising : IsNonDecreasingBy (λ (v : ℕ). ordering_index (stands strings x v)) words
+    rising i j d h k =
+        let m : j < n = omega (arith, count) in
+        rw (stood i d (omega arith), stood j d m)
+        (by_test (eqb i j)
+        (λ e. let p : i ≡ j = eqb-true i j e in rw p (omega arith))
+        (λ e. order_rises (key i) (key j) x (o i j (let ne = eqb-false i j e in omega arith) m)))
+
+    pub finds_by : (r : Result ℕ ℕ) → IsSearchInRange r (length words) → IsBinarySearchResult (stands strings x) words r → Finds strings w n x r
+    finds_by (Ok k) b h =
+        let m : k < n = omega (arith, count) in
+        key_hit n k x m (eq_same x (key k) (sym (order_equal (key k) x (sym (stood k 0 m) ∙ h 0))))
+    finds_by (Err k) b h =
         record {
-          missing = missing;
-          few = b.few;
-          lower = b.lower;
-          upper = λ i h k. by_test (before x (key i)) (λ t. t) (λ t. absurd (absent i k (eq_same x (key i) (before_total x (key i) t (b.upper i h k)))));
+          missing = not_passed (key_below strings w n x) (λ t. let f = key_find n x t in absent f.0 f.1 (same_eq x (key f.0) f.2));
+          few = omega (arith, count);
+          lower = lower;
+          upper = upper;
         }
+      where
+        point : IsPartitionPoint (λ (v : ℕ). stands strings x v ≡ Less) (λ (v : ℕ). stands strings x v ≡ Greater) words k
+        point = h rising
 
--- ---- words that move up
+        lower : (i : ℕ) → i < k → before (key i) x ≡ true
+        lower i q =
+            let m : i < n = omega (arith, count) in
+            order_less (key i) x ∙ ap is_lt (sym (stood i 0 m) ∙ point.0 i 0 (omega arith) q)
 
--- those from i to n have moved up by one; the others, and the i-th, are as they were
-pub record Moved (w : List ℕ) (n i : ℕ) (u : List ℕ) : Type 0 where
-  pub above : (j : ℕ) → i ≤ j → j < n → get_or u (chunk_start + (j + 1)) 0 ≡ get_or w (chunk_start + j) 0
-  pub others : (j : ℕ) → (j ≤ chunk_start + i) ⊎ (chunk_start + n < j) → get_or u j 0 ≡ get_or w j 0
+        upper : (i : ℕ) → k ≤ i → i < n → before x (key i) ≡ true
+        upper i q m = order_greater (key i) x ∙ ap is_gt (sym (stood i 0 m) ∙ point.1 i 0 q (omega (arith, count)))
 
-pub moved_start : (w : List ℕ) (n : ℕ) → Moved w n n w
-moved_start w n = record { above = λ j h k. absurd (omega arith); others = λ j h. refl }
-
-pub moved_more : (w : List ℕ) (n i : ℕ) (u : List ℕ) → 0 < i → i ≤ n → chunk_start + i < length u → Moved w n i u
-    → Moved w n (i - 1) (set u (chunk_start + i) (get_or u (chunk_start + i - 1) 0))
-moved_more w n i u z l h m =
-    let v : ℕ = get_or u (chunk_start + i - 1) 0 in
-    record {
-      above = λ j p q. by_test (eqb (j + 1) i)
-          (λ t. let e : j + 1 ≡ i = eqb-true (j + 1) i t in
-          let f : chunk_start + i - 1 ≡ chunk_start + j = omega arith in
-          ap (λ (k : ℕ). get_or (set u (chunk_start + i) v) (chunk_start + k) 0) e
-          ∙ get_or-set_same u (chunk_start + i) v 0 h
-          ∙ ap (λ (k : ℕ). get_or u k 0) f
-          ∙ m.others (chunk_start + j) (inl (omega arith)))
-          (λ t. let ne = eqb-false (j + 1) i t in
-          get_or-set_other u (chunk_start + i) (chunk_start + (j + 1)) v 0 (λ e. omega arith) ∙ m.above j (omega arith) q);
-      others = λ j p. get_or-set_other u (chunk_start + i) j v 0 (λ e. apart j p e) ∙ m.others j (wider j p);
-    }
-  where
-    apart : (j : ℕ) → (j ≤ chunk_start + (i - 1)) ⊎ (chunk_start + n < j) → j ≡ chunk_start + i → ⊥
-    apart j (inl p) e = omega arith
-    apart j (inr p) e = omega arith
-
-    wider : (j : ℕ) → (j ≤ chunk_start + (i - 1)) ⊎ (chunk_start + n < j) → (j ≤ chunk_start + i) ⊎ (chunk_start + n < j)
-    wider j (inl p) = inl (omega arith)
-    wider j (inr p) = inr p
-
-pub moved_done : (w : List ℕ) (n at offset i : ℕ) (u : List ℕ) → i ≡ at → at ≤ n → chunk_start + at < length u → Moved w n i u → Inserted w n at offset (set u (chunk_start + at) offset)
-moved_done w n at offset i u e l h m =
-    record {
-      below = λ j p. get_or-set_other u (chunk_start + at) (chunk_start + j) offset 0 (λ q. omega arith) ∙ m.others (chunk_start + j) (inl (omega arith));
-      here = get_or-set_same u (chunk_start + at) offset 0 h;
-      above = λ j p q. get_or-set_other u (chunk_start + at) (chunk_start + (j + 1)) offset 0 (λ r. omega arith) ∙ m.above j (omega arith) q;
-      outside = λ j p. get_or-set_other u (chunk_start + at) j offset 0 (λ q. apart j p q) ∙ m.others j (wider j p);
-    }
-  where
-    apart : (j : ℕ) → (j < chunk_start) ⊎ (chunk_start + n < j) → j ≡ chunk_start + at → ⊥
-    apart j (inl p) q = omega arith
-    apart j (inr p) q = omega arith
-
-    wider : (j : ℕ) → (j < chunk_start) ⊎ (chunk_start + n < j) → (j ≤ chunk_start + i) ⊎ (chunk_start + n < j)
-    wider j (inl p) = inl (omega arith)
-    wider j (inr p) = inr p
+        absent : (i : ℕ) → i < n → x ≡ key i → ⊥
+        absent i m e = by_le k i
+            (λ q. before_irrefl x (ap (before x) e ∙ upper i q m))
+            (λ q. before_irrefl x (ap (λ (l : Bytes). before l x) e ∙ lower i q))
 
 -- ---- a chunk that grows
 
@@ -328,11 +309,20 @@ framed_then w v u m n h f g = record { outside = λ i k. g.outside i (beyond i k
 
 -- ---- what the functions answer
 
-pub finds_taken : (strings : Bytes) (w : List ℕ) (n : ℕ) (x y : Bytes) (r : Spot) → x ≡ y → r ≡ Taken → Finds strings w n x r → key_below strings w n y ≡ true
-finds_taken strings w n x y r e f h = ap (key_below strings w n) (sym e) ∙ subst (Finds strings w n x) f h
+pub finds_taken : (strings : Bytes) (w : List ℕ) (n : ℕ) (x y : Bytes) (r : Result ℕ ℕ) (k : ℕ) → x ≡ y → r ≡ Ok k → Finds strings w n x r → key_below strings w n y ≡ true
+finds_taken strings w n x y r k e f h = ap (key_below strings w n) (sym e) ∙ subst (Finds strings w n x) f h
 
-pub finds_free : (strings : Bytes) (w : List ℕ) (n : ℕ) (x y : Bytes) (r : Spot) (k : ℕ) → x ≡ y → r ≡ Free k → Finds strings w n x r → Fresh strings w n y k
+pub finds_free : (strings : Bytes) (w : List ℕ) (n : ℕ) (x y : Bytes) (r : Result ℕ ℕ) (k : ℕ) → x ≡ y → r ≡ Err k → Finds strings w n x r → Fresh strings w n y k
 finds_free strings w n x y r k e f h = subst (λ (z : Bytes). Fresh strings w n z k) e (subst (Finds strings w n x) f h)
+
+-- the same by its test alone
+pub finds_some : (strings : Bytes) (w : List ℕ) (n : ℕ) (x y : Bytes) (r : Result ℕ ℕ) → x ≡ y → is_ok r ≡ true → Finds strings w n x r → key_below strings w n y ≡ true
+finds_some strings w n x y (Ok k) e f h = ap (key_below strings w n) (sym e) ∙ h
+finds_some strings w n x y (Err k) e f h = never true refl (sym f)
+
+pub finds_none : (strings : Bytes) (w : List ℕ) (n : ℕ) (x y : Bytes) (r : Result ℕ ℕ) → x ≡ y → is_ok r ≡ false → Finds strings w n x r → key_below strings w n y ≡ false
+finds_none strings w n x y (Ok k) e f h = never true refl f
+finds_none strings w n x y (Err k) e f h = ap (key_below strings w n) (sym e) ∙ h.missing
 
 pub full_at : (s strings : Bytes) (from left n here : ℕ) (w : List ℕ) → n ≡ chunk_room → n ≤ left → here ≤ length s → Filled s strings from left n here w → Full s strings from left here w
 full_at s strings from left n here w e l h f = go (subst (λ (k : ℕ). Filled s strings from left k here w) e f)

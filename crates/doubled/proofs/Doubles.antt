@@ -15,13 +15,12 @@ use Rattle.rules.specs.Tree.{named, doubled_props}
 use Rattle.rules.proofs.Laws.Tests.{by_test, or_nothing, or_right, or_assoc}
 use Rattle.rules.proofs.Laws.Tokens.{prop_says}
 use Rattle.tokens.specs.declared.Property as read
-use Rattle.tokens.specs.declared.Property.TheVariants.{Here, Missing}
 use Rattle.tokens.specs.Properties.{property_at}
 use Rattle.tokens.proofs.Properties.{here_found, props_none, props_here}
 use Rattle.doubled.specs.Passes.{props_at}
 use Rattle.doubled.specs.Props.{first_hit, up_to_hit, Met, Unmet, MeetsBy}
-use Rattle.doubled.specs.declared.props.Hit as hits
-use Rattle.doubled.specs.declared.props.Hit.TheVariants as hit
+use Rattle.doubled.specs.declared.props.Hit.{Hit}
+use Rattle.std.specs.Prelude.{Option, Some, None}
 
 -- ---- the next property
 
@@ -33,22 +32,22 @@ pub record Next (s strings : Bytes) (from at name next : ℕ) : Type 0 where
   pub offset : word_at s (at + 8) ≡ name
   pub list : (place : ℕ) → props_at s strings place from ≡ record { place = place + at; name = string_at strings name; value = value } ∷ props_at s strings place next
 
-module _ (s strings : Bytes) (from : ℕ) (i : from ≤ length s) (r : read.Property) (e : r ≡ property_at s from) where
-  pub next_here : (at len name value next : ℕ) → r ≡ Here at len name value next → Next s strings from at name next
-  next_here at len name value next f =
-      let k = here_found s from r e at len name value next f in
-      let p = prop_says s at len name value next k.token in
-      let eight : at + 8 ≡ at + 4 + 4 = omega arith in
+module _ (s strings : Bytes) (from : ℕ) (i : from ≤ length s) (r : Option read.Property) (e : r ≡ property_at s from) where
+  pub next_here : (q : read.Property) → r ≡ Some q → Next s strings from q.at q.name q.next
+  next_here q f =
+      let k = here_found s from r e q f in
+      let p = prop_says s q.at q.len q.name q.value q.next k.token in
+      let eight : q.at + 8 ≡ q.at + 4 + 4 = omega arith in
       record {
-        value = part s value len;
+        value = part s q.value q.len;
         ahead = k.ahead;
         inside = omega (arith, p.ends);
         within = p.inside;
         offset = ap (word_at s) eight ∙ sym p.offset;
-        list = λ place. props_here (block_of place s strings) from i r e at len name value next f;
+        list = λ place. props_here (block_of place s strings) from i r e q f;
       }
 
-  pub next_none : r ≡ Missing → (place : ℕ) → props_at s strings place from ≡ []
+  pub next_none : r ≡ None → (place : ℕ) → props_at s strings place from ≡ []
   next_none f place = props_none (block_of place s strings) from i r e f
 
 -- ---- parts of a list
@@ -195,10 +194,10 @@ module _ (f : Bytes → Bool) (xs : List Property) (same : (x : Bytes) → named
   pub behind : (ps : List Property) → doubled_props xs ps ≡ (doubled_props [] (up_to_hit f ps) then first_hit f ps)
   behind ps = split [] ps
 
-pub meets_here : (f : Bytes → Bool) (s strings : Bytes) (from left index at : ℕ) (r : hits.Hit) → r ≡ hit.Here index at → MeetsBy f s strings from left r → Met f s strings from left index at
-meets_here f s strings from left index at r e h = subst (MeetsBy f s strings from left) e h
+pub meets_here : (f : Bytes → Bool) (s strings : Bytes) (from left : ℕ) (hit : Hit) (r : Option Hit) → r ≡ Some hit → MeetsBy f s strings from left r → Met f s strings from left hit.index hit.at
+meets_here f s strings from left hit r e h = subst (MeetsBy f s strings from left) e h
 
-pub meets_none : (f : Bytes → Bool) (s strings : Bytes) (from left : ℕ) (r : hits.Hit) → r ≡ hit.Missing → MeetsBy f s strings from left r → Unmet f s strings from left
+pub meets_none : (f : Bytes → Bool) (s strings : Bytes) (from left : ℕ) (r : Option Hit) → r ≡ None → MeetsBy f s strings from left r → Unmet f s strings from left
 meets_none f s strings from left r e h = subst (MeetsBy f s strings from left) e h
 
 -- ---- as many as are left, and what was found behind them

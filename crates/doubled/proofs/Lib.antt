@@ -1,5 +1,7 @@
--- The laws that the proofs of refusal 10 cite; Turns serves the other passes too.
+-- The laws that the proofs of refusal 10 cite; Turns and Ranges serve the other passes too.
 pub mod Turns
 pub mod Doubles
 pub mod Twins
 pub mod Chunks
+pub mod Ranges
+pub mod Rows

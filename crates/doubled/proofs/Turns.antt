@@ -1,11 +1,8 @@
 -- A walk over tokens as a walk over events: what a token says, and the events from a place on.
-use mathlib.Core.Path.{◌≡◌, sym, ◌∙◌}
-use mathlib.Core.List.{[], ◌∷◌}
+use mathlib.Core.Path.{◌≡◌, refl, sym, ◌∙◌}
+use mathlib.Core.List.{[]}
 use Prim.Native.Nat.{ℕ, ◌≤◌}
 use lib.ListN.{length}
-use types.Run.{OneOf, miss}
-use denote.Enum.Declared.{tag_of}
-use Rattle.rules.specs.contracts.Token as tokened
 use Rattle.rules.specs.Tokens.{token_at}
 use Rattle.rules.specs.Blob.{Block}
 use Rattle.rules.specs.Events.{saying, events_in}
@@ -24,10 +21,10 @@ module _ (b : Block) (at : ℕ) (i : at ≤ length b.structure) (r : Token) (e :
   events_item kind next f = laws.events_item b at i kind next (sym e ∙ f)
 
   -- what is no item ends them
-  pub events_stop : OneOf (1 ∷ 2 ∷ []) (tag_of tokened.the_type r) → events_at b at ≡ []
+  pub events_stop : ((kind : Kind) (next : ℕ) → r ≡ Item kind next → ⊥) → events_at b at ≡ []
   events_stop h = by r e h
     where
-      by : (t : Token) → t ≡ token_at b.structure at → OneOf (1 ∷ 2 ∷ []) (tag_of tokened.the_type t) → events_at b at ≡ []
-      by (Item kind next) f h = absurd (miss (1 ∷ 2 ∷ []) 0 tt h)
+      by : (t : Token) → t ≡ token_at b.structure at → ((kind : Kind) (next : ℕ) → t ≡ Item kind next → ⊥) → events_at b at ≡ []
+      by (Item kind next) f h = absurd (h kind next refl)
       by End f h = laws.events_end b at i (sym f)
       by Cut f h = laws.events_cut b at i (sym f)

@@ -8,10 +8,7 @@ use native.Mathlib.Omega.{arith}
 use lib.Dec.{eqb, leb}
 use lib.ListN.{length, get_or, take, drop, take-append-drop, get_or-eq_default}
 use lib.Seq.{take_at, get_or-drop, get_or-take, length-take-le}
-use types.Run.{OneOf}
-use denote.Enum.Declared.{tag_of}
-use borrow.Author.Tests.{eqb-true, eqb-false, eq-eqb, ne_eqb, lt-ltb, le-leb, lt-leb}
-use Rattle.rules.specs.contracts.Token as tokened
+use borrow.Author.Tests.{eqb-true, eq-eqb, ne_eqb, lt-ltb, le-leb, lt-leb}
 use Rattle.rules.specs.Ceilings.{node_words, node_ceiling, work_words}
 use Rattle.rules.specs.Octets.{Bytes, byte_at, length_to, nul_in, same, begins}
 use Rattle.rules.specs.Outcome.{Verdict, gives, refuses, passes, ◌then◌, first}
@@ -23,40 +20,47 @@ use Rattle.rules.specs.declared.Token.{Token}
 use Rattle.rules.specs.declared.Token.TheVariants.{Item}
 use Rattle.rules.specs.declared.Kind.{Kind}
 use Rattle.rules.specs.declared.Kind.TheVariants.{Begin, EndNode, Prop, Nop}
-use Rattle.rules.proofs.Laws.Tests.{by_test, by_le, both_ways, and_true, true_and, or_left, or_right, and_none, eqb_sym}
+use Rattle.rules.proofs.Laws.Tests.{by_test, by_le, both_ways, and_true, true_and, and_none, or_comm, eqb_sym}
 use Rattle.rules.proofs.Laws.Octets.{nul_le, nul_byte, nul_before, begins_split, begins_append, same_eq, eq_same}
 use Rattle.rules.proofs.Laws.Tokens.{begin_says}
 use Rattle.rules.specs.Laws.Events.{events_at}
 use Rattle.doubled.specs.Passes.{nodes_in, has_row, verdict}
-use Rattle.doubled.specs.declared.Found.{Found}
-use Rattle.doubled.specs.declared.Found.TheVariants.{Nothing, At}
+use Rattle.std.specs.Prelude.{Option, Some, None}
 use Rattle.doubled.specs.Sorted.{chunk_start}
 use Rattle.doubled.specs.Props.{Clear}
 use Rattle.doubled.specs.Siblings.{named_at, row_named, sibling_below, row_parent, node_judged, Table}
+use Rattle.std.specs.List.{list_any, range_with_len, starts_with}
+use Rattle.doubled.proofs.Ranges.{any_more}
 use Rattle.doubled.proofs.Turns.{events_all, events_item, events_stop}
 
 module _ (s : Bytes) (place : ℕ) (w : List ℕ) (parent : ℕ) (name : Bytes) where
   -- no row stands before the parent's
-  pub siblings_none : (n : ℕ) → n ≤ parent → sibling_below s place w n parent name ≡ false
+  siblings_none : (n : ℕ) → n ≤ parent → sibling_below s place w n parent name ≡ false
   unfolding sibling_below
   siblings_none zero h = refl
   siblings_none (suc n) h = rw (lt-leb parent n (omega arith)) (siblings_none n (omega arith))
 
-  pub siblings_more : (n : ℕ) → parent ≤ n → sibling_below s place w n parent name ≡ false → row_named s place w n parent name ≡ false → sibling_below s place w (n + 1) parent name ≡ false
-  unfolding sibling_below
-  siblings_more n l h k = rw (add-one n, le-leb parent n l, k, h)
+  -- a search from the parent's row on
+  abbrev found : ℕ → Bool
+  found n = list_any (λ j. row_named s place w j parent name) (range_with_len parent (n - parent))
 
-  pub siblings_hit : (n m : ℕ) → parent ≤ n → n < m → row_named s place w n parent name ≡ true → sibling_below s place w m parent name ≡ true
-  unfolding sibling_below
-  siblings_hit n zero l h k = absurd (let z : ⊥ = omega arith in z)
-  siblings_hit n (suc m) l h k = by_test (eqb n m)
-      (λ e. or_left (leb parent m && row_named s place w m parent name) _ (ap (λ (x : ℕ). leb parent x && row_named s place w x parent name) (sym (eqb-true n m e)) ∙ true_and (leb parent n) (row_named s place w n parent name) (le-leb parent n l) k))
-      (λ e. or_right (leb parent m && row_named s place w m parent name) _ (siblings_hit n m l (let ne = eqb-false n m e in omega arith) k))
+  found_none : (n : ℕ) → n ≤ parent → found n ≡ sibling_below s place w n parent name
+  found_none n h = let e : n - parent ≡ 0 = omega arith in rw e (sym (siblings_none n h))
 
-  -- a search from the parent's row on has come to its end
-  pub siblings_end : (n m : ℕ) → parent ≤ m → m - parent ≤ n - parent → n ≤ m → sibling_below s place w m parent name ≡ false → sibling_below s place w n parent name ≡ false
-  siblings_end n m l k h e =
-      by_le n parent (λ p. siblings_none n p) (λ p. let q : n ≡ m = omega arith in ap (λ (x : ℕ). sibling_below s place w x parent name) q ∙ e)
+  found_more : (n : ℕ) → parent ≤ n → found n ≡ sibling_below s place w n parent name → found (suc n) ≡ sibling_below s place w (suc n) parent name
+  unfolding sibling_below
+  found_more n h k =
+      let e : suc n - parent ≡ suc (n - parent) = omega arith in
+      let f : parent + (n - parent) ≡ n = omega arith in
+      rw (le-leb parent n h)
+      (ap (λ (l : ℕ). list_any (λ j. row_named s place w j parent name) (range_with_len parent l)) e
+      ∙ any_more (λ j. row_named s place w j parent name) parent (n - parent)
+      ∙ ap₂ (λ (p q : Bool). p || q) k (ap (λ (l : ℕ). row_named s place w l parent name) f)
+      ∙ or_comm (sibling_below s place w n parent name) (row_named s place w n parent name))
+
+  pub siblings_any : (n : ℕ) → found n ≡ sibling_below s place w n parent name
+  siblings_any zero = found_none zero (omega arith)
+  siblings_any (suc n) = by_le parent n (λ h. found_more n h (siblings_any n)) (λ h. found_none (suc n) (omega arith))
 
 -- ---- a name without NUL
 
@@ -96,6 +100,13 @@ same_named name r e =
     let q : r ≡ name ++ drop (nul_in r) r = sym (take-append-drop (nul_in r) r) ∙ ap (λ (k : Bytes). k ++ drop (nul_in r) r) (sym e) in
     let b : begins name r ≡ true = ap (begins name) q ∙ begins_append name (drop (nul_in r) r) in
     true_and (begins name r) (eqb (byte_at r (length name)) 0) b (eq-eqb (byte_at r (length name)) 0 z)
+
+-- the library's test is this one
+pub starts_begins : (name r : Bytes) → starts_with eqb r name ≡ begins name r
+unfolding begins
+starts_begins [] r = refl
+starts_begins (b ∷ name) [] = refl
+starts_begins (b ∷ name) (c ∷ r) = ap (λ (t : Bool). eqb b c && t) (starts_begins name r)
 
 pub named_at_lem : (name r : Bytes) → NoNul name → named_at name r ≡ same name (up_to r)
 unfolding named_at
@@ -181,7 +192,7 @@ module _ (s strings : Bytes) (place : ℕ) (w : List ℕ) (at count : ℕ) (i : 
   abbrev t : Tree
   t = nodes_in s strings place
 
-  pub come_stop : OneOf (1 ∷ 2 ∷ []) (tag_of tokened.the_type r) → passes ≡ doubled_judged t
+  pub come_stop : ((kind : Kind) (next : ℕ) → r ≡ Item kind next → ⊥) → passes ≡ doubled_judged t
   come_stop h =
       sym (ap (λ (es : List Event). doubled_from c.seen (nodes_from c.stack count es)) (events_stop b at i r e h)
       ∙ ap (doubled_from c.seen) (nodes_none c.stack count)
@@ -203,16 +214,26 @@ module _ (s strings : Bytes) (place : ℕ) (w : List ℕ) (at count : ℕ) (i : 
           below = c.below;
         }
 
-    pub come_end : kind ≡ EndNode → Come s strings place w next count
+    come_end : kind ≡ EndNode → Come s strings place w next count
     unfolding nodes_from
     come_end g = moved (rest c.stack) (before_rest count c.stack c.behind) (ap (nodes_from c.stack count) (said EndNode g))
 
-    pub come_prop : (len name value : ℕ) → kind ≡ Prop len name value → Come s strings place w next count
+    come_prop : (len name value : ℕ) → kind ≡ Prop len name value → Come s strings place w next count
     unfolding nodes_from
     come_prop len name value g = moved c.stack c.behind (ap (nodes_from c.stack count) (said (Prop len name value) g))
 
-    pub come_nop : kind ≡ Nop → Come s strings place w next count
+    come_nop : kind ≡ Nop → Come s strings place w next count
     come_nop g = moved c.stack c.behind (ap (nodes_from c.stack count) (said Nop g))
+
+    -- what is no BEGIN
+    pub come_past : ((len : ℕ) → kind ≡ Begin len → ⊥) → Come s strings place w next count
+    come_past h = by kind refl h
+      where
+        by : (k : Kind) → kind ≡ k → ((len : ℕ) → k ≡ Begin len → ⊥) → Come s strings place w next count
+        by (Begin len) g h = absurd (h len refl)
+        by EndNode g h = come_end g
+        by (Prop len name value) g h = come_prop len name value g
+        by Nop g h = come_nop g
 
     module _ (table : Table w t) (len : ℕ) (g : kind ≡ Begin len) where
       abbrev m : Node
@@ -250,10 +271,10 @@ module _ (s strings : Bytes) (place : ℕ) (w : List ℕ) (at count : ℕ) (i : 
           let q : sibling_below s place w count (row_parent w count) m.name ≡ sibling m c.seen = ap (λ (n : ℕ). sibling_below s place w count n m.name) p ∙ sym (c.below m nulless) in
           h ∙ ap (λ (x : Bool). first (record { fails = x; number = 10; place = place + at } ∷ []) then doubled_props [] m.props) q
 
-      pub come-fault : (q : Found) (x : ℕ) → q ≡ At x → verdict 10 place q ≡ node_judged s strings place w count at len next place → verdict 10 place q ≡ doubled_judged t
+      pub come-fault : (q : Option ℕ) (x : ℕ) → q ≡ Some x → verdict 10 place q ≡ node_judged s strings place w count at len next place → refuses 10 (place + x) ≡ doubled_judged t
       come-fault q x k h =
           let v : verdict 10 place q ≡ refuses 10 (place + x) = ap (verdict 10 place) k in
-          v ∙ sym (ap (doubled_from c.seen) opened ∙ from_step c.seen m ns (refuses 10 (place + x)) (judged (refuses 10 (place + x)) (sym v ∙ h))) ∙ c.rest
+          sym (ap (doubled_from c.seen) opened ∙ from_step c.seen m ns (refuses 10 (place + x)) (judged (refuses 10 (place + x)) (sym v ∙ h))) ∙ c.rest
 
       rowed : (n : Node) → NoNul n.name → row_named s place w count n.parent n.name ≡ eqb n.parent m.parent && same n.name m.name
       unfolding row_named
@@ -278,7 +299,7 @@ module _ (s strings : Bytes) (place : ℕ) (w : List ℕ) (at count : ℕ) (i : 
       unfolding sibling sibling_below
       one_more n k = ap₂ (λ (x y : Bool). x || y) (sym (bounded n k)) (c.below n k)
 
-      pub come-begin : (q : Found) → q ≡ Nothing → verdict 10 place q ≡ node_judged s strings place w count at len next place → Come s strings place w next (count + 1)
+      pub come-begin : (q : Option ℕ) → q ≡ None → verdict 10 place q ≡ node_judged s strings place w count at len next place → Come s strings place w next (count + 1)
       come-begin q k j =
           let h : passes ≡ node_judged s strings place w count at len next place = sym (ap (verdict 10 place) k) ∙ j in
           let d : doubled_from c.seen (m ∷ ns) ≡ doubled_from (m ∷ c.seen) ns = from_step c.seen m ns passes (judged passes h) in
@@ -298,7 +319,7 @@ unfolding node_words node_ceiling work_words
 table_clear w t table = record { room = table.room; zeros = λ i h. table.clear (chunk_start + i) (omega arith) (omega arith) }
 
 -- what is known of a work space, where it is as it was
-pub node_back : (s strings : Bytes) (place : ℕ) (w v : List ℕ) (i at len next : ℕ) (q : Found) → v ≡ w → work_words ≤ length w
+pub node_back : (s strings : Bytes) (place : ℕ) (w v : List ℕ) (i at len next : ℕ) (q : Option ℕ) → v ≡ w → work_words ≤ length w
     → (work_words ≤ length v → verdict 10 place q ≡ node_judged s strings place v i at len next place)
     → verdict 10 place q ≡ node_judged s strings place w i at len next place
 node_back s strings place w v i at len next q e h f =

@@ -1,5 +1,5 @@
 -- The properties of one node, as they are read one after the other.
-use Rattle.std.specs.Prelude.{◌≡◌, Bool, true, false, List, [], ◌∷◌, ℕ, ◌+◌, ◌-◌, ◌≤◌, ◌<◌, length, take, get_or}
+use Rattle.std.specs.Prelude.{◌≡◌, Bool, true, false, List, [], ◌∷◌, ℕ, ◌+◌, ◌-◌, ◌≤◌, ◌<◌, length, take, get_or, Option, Some, None}
 use Rattle.rules.specs.Ceilings.{work_words}
 use Rattle.rules.specs.Octets.{Bytes}
 use Rattle.rules.specs.Outcome.{Verdict, refuses, passes, ◌then◌, first}
@@ -9,8 +9,7 @@ use Rattle.doubled.specs.Passes.{props_at}
 use Rattle.doubled.specs.Sorted.{chunk_start, chunk_room, key_below, Ordered}
 use Rattle.doubled.specs.declared.props.Built as builts
 use Rattle.doubled.specs.declared.props.Built.TheVariants as built
-use Rattle.doubled.specs.declared.props.Hit as hits
-use Rattle.doubled.specs.declared.props.Hit.TheVariants as hit
+use Rattle.doubled.specs.declared.props.Hit.{Hit}
 
 -- ---- properties whose names pass a test
 
@@ -35,12 +34,12 @@ pub record Unmet (f : Bytes → Bool) (s strings : Bytes) (from left : ℕ) : Ty
   pub fault : (place : ℕ) → first_hit f (take left (props_at s strings place from)) ≡ passes
   pub rest : (place : ℕ) → up_to_hit f (take left (props_at s strings place from)) ≡ take left (props_at s strings place from)
 
-abbrev pub MeetsBy : (Bytes → Bool) → (s strings : Bytes) (from left : ℕ) → hits.Hit → Type 0
-MeetsBy f s strings from left (hit.Here index at) = Met f s strings from left index at
-MeetsBy f s strings from left hit.Missing = Unmet f s strings from left
+abbrev pub MeetsBy : (Bytes → Bool) → (s strings : Bytes) (from left : ℕ) → Option Hit → Type 0
+MeetsBy f s strings from left (Some hit) = Met f s strings from left hit.index hit.at
+MeetsBy f s strings from left None = Unmet f s strings from left
 
 -- the search of a chunk: a name that is in it
-abbrev pub Meets : (s strings : Bytes) → List ℕ → (from left : ℕ) → hits.Hit → Type 0
+abbrev pub Meets : (s strings : Bytes) → List ℕ → (from left : ℕ) → Option Hit → Type 0
 Meets s strings w from left r = MeetsBy (key_below strings w chunk_room) s strings from left r
 
 -- ---- a chunk of properties

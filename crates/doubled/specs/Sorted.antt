@@ -1,10 +1,8 @@
 -- A chunk of names in byte order, kept in the words of the work space behind the node table.
-use Rattle.std.specs.Prelude.{◌≡◌, ◌⊎◌, Bool, true, false, ◌||◌, List, ℕ, zero, suc, ◌+◌, ◌-◌, ◌≤◌, ◌<◌, min, get_or}
+use Rattle.std.specs.Prelude.{◌≡◌, ◌⊎◌, Bool, true, false, ◌||◌, List, ℕ, zero, suc, ◌+◌, ◌-◌, ◌≤◌, ◌<◌, min, get_or, Result, Ok, Err}
 use Rattle.rules.specs.Octets.{Bytes, before, same}
 use Rattle.rules.specs.Events.{string_at}
 use Rattle.rules.specs.Laws.Constants.{WORK_WORDS, MARKS_AT}
-use Rattle.doubled.specs.declared.sorted.Spot.{Spot}
-use Rattle.doubled.specs.declared.sorted.Spot.TheVariants.{Taken, Free}
 
 -- the first word behind the node table, and how many there are up to the end of the work space
 abbrev pub chunk_start : ℕ
@@ -25,12 +23,6 @@ key_below strings w (suc n) x = same x (key_at strings w n) || key_below strings
 abbrev pub Ordered : (strings : Bytes) → List ℕ → ℕ → Type 0
 Ordered strings w n = (i j : ℕ) → i < j → j < n → before (key_at strings w i) (key_at strings w j) ≡ true
 
--- r of the n names come before x, and they stand first
-pub record Between (strings : Bytes) (w : List ℕ) (n : ℕ) (x : Bytes) (r : ℕ) : Type 0 where
-  pub few : r ≤ n
-  pub lower : (i : ℕ) → i < r → before (key_at strings w i) x ≡ true
-  pub upper : (i : ℕ) → r ≤ i → i < n → before (key_at strings w i) x ≡ false
-
 -- x is not among them, and would stand at k
 pub record Fresh (strings : Bytes) (w : List ℕ) (n : ℕ) (x : Bytes) (k : ℕ) : Type 0 where
   pub missing : key_below strings w n x ≡ false
@@ -38,9 +30,9 @@ pub record Fresh (strings : Bytes) (w : List ℕ) (n : ℕ) (x : Bytes) (k : ℕ
   pub lower : (i : ℕ) → i < k → before (key_at strings w i) x ≡ true
   pub upper : (i : ℕ) → k ≤ i → i < n → before x (key_at strings w i) ≡ true
 
-abbrev pub Finds : (strings : Bytes) → List ℕ → (n : ℕ) → Bytes → Spot → Type 0
-Finds strings w n x Taken = key_below strings w n x ≡ true
-Finds strings w n x (Free k) = Fresh strings w n x k
+abbrev pub Finds : (strings : Bytes) → List ℕ → (n : ℕ) → Bytes → Result ℕ ℕ → Type 0
+Finds strings w n x (Ok k) = key_below strings w n x ≡ true
+Finds strings w n x (Err k) = Fresh strings w n x k
 
 -- a word is put at an index of the chunk, and those up to the n-th move up by one
 pub record Inserted (w : List ℕ) (n at offset : ℕ) (u : List ℕ) : Type 0 where

@@ -23,10 +23,9 @@ use Rattle.rules.proofs.Laws.Tokens.{item_ahead}
 use Rattle.rules.proofs.Laws.Events.{events_all}
 use Rattle.rules.proofs.Laws.Kept.{only_none, only_then}
 use Rattle.guest.specs.declared.walk.Walk.{Walk}
-use Rattle.guest.specs.declared.walk.Named.{Named}
-use Rattle.guest.specs.declared.walk.Named.TheVariants.{At, Nothing}
+use Rattle.std.specs.Prelude.{Option, Some, None}
 use Rattle.guest.specs.declared.measured.Sum.{Sum}
-use Rattle.guest.specs.Walked.{marked, copies, onward_of, sift, Above, Near}
+use Rattle.guest.specs.Walked.{marked, copies, onward_of, sift, Above}
 use Rattle.guest.specs.Measured.{is_in, names_in, prop_of, name_at, in_table, Tabled, growth_of, structure_size, Low, Entered, Sized}
 use Rattle.guest.proofs.Sifts.{size_at, size_item, size_stop, names_all, names_item, names_stop}
 use Rattle.guest.proofs.Noted.{kept_marked, growth_one}
@@ -47,13 +46,13 @@ growth_none : (done : List Bytes) → growth_of done [] ≡ 0
 unfolding growth_of
 growth_none done = refl
 
-growth_small : (t : Bytes) (done : List Bytes) (p : Named) → growth_of done (name_at t p) ≤ length t + 1
-growth_small t done Nothing = omega (arith, growth_none done)
-growth_small t done (At o) = omega (arith, growth_one t done o)
+growth_small : (t : Bytes) (done : List Bytes) (p : Option ℕ) → growth_of done (name_at t p) ≤ length t + 1
+growth_small t done None = omega (arith, growth_none done)
+growth_small t done (Some o) = omega (arith, growth_one t done o)
 
-name_few : (t : Bytes) (p : Named) → length (name_at t p) ≤ 1
-name_few t Nothing = omega arith
-name_few t (At o) = omega arith
+name_few : (t : Bytes) (p : Option ℕ) → length (name_at t p) ≤ 1
+name_few t None = omega arith
+name_few t (Some o) = omega arith
 
 -- ---- the sums so far
 
@@ -166,9 +165,6 @@ module _ (s t : Bytes) (ws₀ ws : List ℕ) (at : ℕ) (w : Walk) (sum : Sum) (
     (short : length s ≤ blob_ceiling) (brief : length t ≤ blob_ceiling) (r : Token) (e : r ≡ token_at s at) where
   pub measures_low : Low sum
   measures_low = counted_low (block_of 0 s t) (marked ws) (names_in s t ws) at w sum m.counted (omega (arith, m.inside))
-
-  pub measures_near : Near w
-  measures_near = record { next = omega (arith, m.behind.0, m.inside); skipped = omega (arith, m.behind.1, m.inside) }
 
   pub measures_stop : OneOf (1 ∷ 2 ∷ []) (tag_of tokened.the_type r) → Sized s t ws (record { structure = sum.structure; strings = sum.strings })
   measures_stop h =

@@ -2,13 +2,13 @@
 use mathlib.Core.Path.{◌≡◌, refl, sym, ap, ◌∙◌}
 use mathlib.Core.Bool.{Bool, true, false}
 use mathlib.Core.List.{List, [], ◌∷◌, ◌++◌}
-use Prim.Native.Nat.{ℕ, ◌+◌, ◌/◌, ◌*◌, ◌≤◌}
+use Prim.Native.Nat.{ℕ, ◌+◌, ◌≤◌}
 use native.Mathlib.Omega.{arith}
 use lib.ListN.{length, drop, length-append}
 use types.Run.{OneOf}
 use denote.Enum.Declared.{tag_of}
 use Rattle.rules.specs.contracts.Token as tokened
-use Rattle.rules.specs.Ceilings.{blob_ceiling}
+use Rattle.std.specs.Int.{next_multiple_of}
 use Rattle.rules.specs.Octets.{Bytes, part, lay}
 use Rattle.rules.specs.Blob.{Block, block_of}
 use Rattle.rules.specs.Tokens.{token_at}
@@ -19,72 +19,69 @@ use Rattle.rules.specs.declared.Token.{Token}
 use Rattle.rules.specs.declared.Token.TheVariants.{Item}
 use Rattle.rules.specs.declared.Kind.{Kind}
 use Rattle.rules.specs.declared.Kind.TheVariants.{Begin, EndNode, Prop, Nop}
-use Rattle.rules.proofs.Laws.Tests.{never}
 use Rattle.rules.proofs.Laws.Tokens.{item_ahead}
 use Rattle.rules.proofs.Laws.Events.{events_all}
 use Rattle.rules.proofs.Laws.Writer.{length_begin, length_end}
 use Rattle.guest.specs.declared.walk.Walk.{Walk}
 use Rattle.guest.specs.declared.Size.{Size}
-use Rattle.guest.specs.Walked.{marked, copies, onward_of, heard, sift, blank, copy_of, Near}
-use Rattle.guest.specs.Laid.{blocks_in, size_of, wrote, with_property, Fits, Begun, Lays}
+use Rattle.guest.specs.Walked.{marked, copies, onward_of, heard, sift, blank, copy_of}
+use Rattle.guest.specs.Laid.{blocks_in, size_of, wrote, spoken, with_property, Fits, Begun, Lays}
 use Rattle.guest.proofs.Sifts.{rest_at, rest_item, rest_stop}
 use Rattle.guest.proofs.Turns.{Behind, walk_behind}
 use Rattle.guest.proofs.Grown.{structure_length}
 use Rattle.guest.proofs.Sieved.{write_when}
-use Rattle.guest.proofs.Regions.{begun_structure, begun_strings, lays_none, lays_structure}
+use Rattle.guest.proofs.Regions.{padded_next, begun_structure, begun_strings, lays_none, lays_structure}
 
 -- ---- one token
 
-module _ (k : ℕ → Bool) (m s : ℕ) (b : Block) (at : ℕ) (kind : Kind) (w : Blocks) where
+-- `c` says that it is laid
+module _ (c : Bool) (b : Block) (at : ℕ) (kind : Kind) (w : Blocks) where
   abbrev next_blocks : Blocks
-  next_blocks = wrote (copies k m s kind) w (heard b at kind)
+  next_blocks = wrote c w (heard b at kind)
 
-  wrote_none : copies k m s kind ≡ false → next_blocks ≡ w
-  wrote_none c = rw c
+  wrote_none : c ≡ false → next_blocks ≡ w
+  wrote_none e = rw e
 
-  wrote_begin : (len : ℕ) → kind ≡ Begin len → copies k m s kind ≡ true
+  wrote_begin : (len : ℕ) → kind ≡ Begin len → c ≡ true
       → next_blocks ≡ record { structure = w.structure ++ begin_bytes (node_name_at b.structure at len); strings = w.strings }
   unfolding write_event
-  wrote_begin len q c = rw (c, q)
+  wrote_begin len q e = rw (e, q)
 
-  wrote_end : kind ≡ EndNode → copies k m s kind ≡ true → next_blocks ≡ record { structure = w.structure ++ end_bytes; strings = w.strings }
+  wrote_end : kind ≡ EndNode → c ≡ true → next_blocks ≡ record { structure = w.structure ++ end_bytes; strings = w.strings }
   unfolding write_event
-  wrote_end q c = rw (c, q)
+  wrote_end q e = rw (e, q)
 
-  pub wrote_prop : (len name value : ℕ) → kind ≡ Prop len name value → copies k m s kind ≡ true
+  wrote_prop : (len name value : ℕ) → kind ≡ Prop len name value → c ≡ true
       → next_blocks ≡ with_property w (string_at b.strings name) (part b.structure value len)
   unfolding write_event
-  wrote_prop len name value q c = rw (c, q)
+  wrote_prop len name value q e = rw (e, q)
 
-module _ (k : ℕ → Bool) (m s : ℕ) (b : Block) (at : ℕ) (kind : Kind) (n : ℕ) (g : Bytes) (done : Size) (begun : Begun n g done)
-    (f : Fits n g (wrote (copies k m s kind) (blocks_in n g done) (heard b at kind))) where
+module _ (c : Bool) (b : Block) (at : ℕ) (kind : Kind) (n : ℕ) (g : Bytes) (done : Size) (begun : Begun n g done)
+    (f : Fits n g (wrote c (blocks_in n g done) (heard b at kind))) where
   abbrev goal : Bytes → Size → Type 0
-  goal h r = Lays n g h r (wrote (copies k m s kind) (blocks_in n g done) (heard b at kind))
+  goal h r = Lays n g h r (wrote c (blocks_in n g done) (heard b at kind))
 
-  pub lay_none : copies k m s kind ≡ false → goal g done
-  lay_none c = rw (wrote_none k m s b at kind (blocks_in n g done) c) (lays_none n g done begun)
+  pub lay_none : c ≡ false → goal g done
+  lay_none e = rw (wrote_none c b at kind (blocks_in n g done) e) (lays_none n g done begun)
 
-  pub lay_nop : kind ≡ Nop → copies k m s kind ≡ true → goal g done
-  lay_nop q c = never (copies k m s kind) c (rw q)
-
-  pub lay_begin : (len : ℕ) → kind ≡ Begin len → copies k m s kind ≡ true → (name h : Bytes) → name ≡ node_name_at b.structure at len
-      → h ≡ lay g (56 + done.structure) (begin_bytes name)
-      → goal h (record { structure = done.structure + 4 + (length name + 4) / 4 * 4; strings = done.strings })
-  lay_begin len q c name h e l =
-      let w = wrote_begin k m s b at kind (blocks_in n g done) len q c in
+  pub lay_begin : (len : ℕ) → kind ≡ Begin len → c ≡ true → (name h : Bytes) → name ≡ node_name_at b.structure at len
+      → h ≡ lay g (56 + done.structure) (begin_bytes name) → (x : ℕ) → x ≡ next_multiple_of (length name + 1) 4
+      → goal h (record { structure = done.structure + (4 + x); strings = done.strings })
+  lay_begin len q t name h e l x p =
+      let w = wrote_begin c b at kind (blocks_in n g done) len q t in
       let bs : Bytes = begin_bytes (node_name_at b.structure at len) in
       let r : h ≡ lay g (56 + done.structure) bs = l ∙ ap (λ (x : Bytes). lay g (56 + done.structure) (begin_bytes x)) e in
       let v = length_begin (node_name_at b.structure at len) in
       rw w
       (lays_structure n g done begun bs h r
       (omega (arith, f.structure, ap (λ (z : Blocks). length z.structure) w, length-append (part g 56 done.structure) bs, begun_structure n g done begun))
-      (done.structure + 4 + (length name + 4) / 4 * 4)
-      (omega (arith, v, ap length e)))
+      (done.structure + (4 + x))
+      (omega (arith, v, ap length e, p, padded_next (length name + 1))))
 
-  pub lay_end : kind ≡ EndNode → copies k m s kind ≡ true → (h : Bytes) → h ≡ lay g (56 + done.structure) end_bytes
+  pub lay_end : kind ≡ EndNode → c ≡ true → (h : Bytes) → h ≡ lay g (56 + done.structure) end_bytes
       → goal h (record { structure = done.structure + 4; strings = done.strings })
-  lay_end q c h l =
-      let w = wrote_end k m s b at kind (blocks_in n g done) q c in
+  lay_end q t h l =
+      let w = wrote_end c b at kind (blocks_in n g done) q t in
       rw w
       (lays_structure n g done begun end_bytes h l
       (omega (arith, f.structure, ap (λ (z : Blocks). length z.structure) w, length-append (part g 56 done.structure) end_bytes, begun_structure n g done begun))
@@ -92,16 +89,23 @@ module _ (k : ℕ → Bool) (m s : ℕ) (b : Block) (at : ℕ) (kind : Kind) (n 
       (omega (arith, length_end)))
 
   -- what a property asks, and gives
-  module _ (len name value : ℕ) (q : kind ≡ Prop len name value) (c : copies k m s kind ≡ true) (x v : Bytes)
+  module _ (len name value : ℕ) (q : kind ≡ Prop len name value) (t : c ≡ true) (x v : Bytes)
       (e : x ≡ string_at b.strings name) (l : v ≡ part b.structure value len) where
-    same_blocks : wrote (copies k m s kind) (blocks_in n g done) (heard b at kind) ≡ with_property (blocks_in n g done) x v
-    same_blocks = wrote_prop k m s b at kind (blocks_in n g done) len name value q c ∙ rw (e, l)
+    same_blocks : wrote c (blocks_in n g done) (heard b at kind) ≡ with_property (blocks_in n g done) x v
+    same_blocks = wrote_prop c b at kind (blocks_in n g done) len name value q t ∙ rw (e, l)
 
     pub prop_fits : Fits n g (with_property (blocks_in n g done) x v)
     prop_fits = rw same_blocks at f
 
     pub lay_prop : (h : Bytes) (r : Size) → Lays n g h r (with_property (blocks_in n g done) x v) → goal h r
     lay_prop h r y = rw same_blocks y
+
+-- a token that is copied says something
+pub copied_spoken : (k : ℕ → Bool) (n s : ℕ) (kind : Kind) → copies k n s kind ≡ true → spoken kind ≡ copies k n s kind
+copied_spoken k n s (Begin len) e = sym e
+copied_spoken k n s EndNode e = sym e
+copied_spoken k n s (Prop len name value) e = sym e
+copied_spoken k n s Nop e = refl
 
 -- ---- the walk
 
@@ -141,23 +145,20 @@ module _ (s t : Bytes) (ws : List ℕ) (n : ℕ) (g₀ : Bytes) (p : n ≡ 56 + 
   }
 
   module _ (g : Bytes) (at : ℕ) (w : Walk) (done : Size) (f : Fills s t ws n g₀ g at w done) (r : Token) (e : r ≡ token_at s at) where
-    pub fills_near : length s ≤ blob_ceiling → Near w
-    fills_near h = record { next = omega (arith, f.behind.0, f.inside); skipped = omega (arith, f.behind.1, f.inside) }
-
-    pub fills_stop : OneOf (1 ∷ 2 ∷ []) (tag_of tokened.the_type r) → Lays n g₀ g (size_of (copy_of s t ws)) (copy_of s t ws)
+    pub fills_stop : (j : Bytes) → j ≡ g → OneOf (1 ∷ 2 ∷ []) (tag_of tokened.the_type r) → Lays n g₀ j (size_of (copy_of s t ws)) (copy_of s t ws)
     unfolding write_events
-    fills_stop h =
+    fills_stop j q h =
         let y : blocks_in n g done ≡ copy_of s t ws =
         ap (write_events (blocks_in n g done)) (sym (rest_stop (marked ws) (block_of 0 s t) at w.next w.skipped f.inside r e h)) ∙ f.rest in
         let a : done.structure ≡ length (copy_of s t ws).structure = sym (begun_structure n g done f.begun) ∙ ap (λ (v : Blocks). length v.structure) y in
         let c : done.strings ≡ length (copy_of s t ws).strings = sym (begun_strings n g done f.begun) ∙ ap (λ (v : Blocks). length v.strings) y in
-        record {
+        rw q (record {
           blocks = (λ i. record { structure = part g 56 (sym a i); strings = part g n (sym c i) }) ∙ y;
           structure = refl;
           strings = refl;
           behind = λ m x. f.kept m x;
           size = f.same;
-        }
+        })
 
     module _ (kind : Kind) (next : ℕ) (q : r ≡ Item kind next) where
       abbrev after : Blocks

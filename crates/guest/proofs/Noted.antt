@@ -8,19 +8,21 @@ use native.Mathlib.Omega.{arith}
 use native.Mathlib.Numerals.{add-one}
 use lib.Dec.{ltb}
 use lib.ListN.{length, get_or, take, drop, length-drop, drop_of_length-le}
-use lib.Seq.{length-take-le}
+use lib.Seq.{length-take-le, take-suc}
 use borrow.Author.Tests.{lt-ltb, le-ltb, ltb-true, ltb-false}
 use Rattle.rules.specs.Ceilings.{node_ceiling, node_words, work_words}
 use Rattle.rules.specs.Space.{table_words, marks_at, list_at, stack_at}
-use Rattle.rules.specs.Octets.{Bytes, nul_in, lay, same}
+use Rattle.std.specs.List.{list_any}
+use Rattle.std.proofs.lemmas.List.{get_or-drop}
+use Rattle.std.proofs.lemmas.List.Folds.{list_any-append}
+use Rattle.rules.specs.Octets.{part, Bytes, nul_in, lay, same}
 use Rattle.rules.specs.Events.{string_at}
 use Rattle.rules.specs.declared.Kind.{Kind}
 use Rattle.rules.specs.declared.Kind.TheVariants.{Begin, EndNode, Prop, Nop}
-use Rattle.rules.proofs.Laws.Tests.{by_test, never, or_cases, or_left, or_right, not_passed, or_nothing}
+use Rattle.rules.proofs.Laws.Tests.{by_test, by_le, never, or_cases, or_left, or_right, not_passed, or_nothing, or_comm}
 use Rattle.rules.proofs.Laws.Octets.{same_eq, nul_le, length_lay, lay_one_same, lay_one_other}
 use Rattle.rules.proofs.Laws.Kept.{list_behind, stack_behind, only_none, only_one}
-use Rattle.guest.specs.declared.walk.Named.{Named}
-use Rattle.guest.specs.declared.walk.Named.TheVariants.{At, Nothing}
+use Rattle.std.specs.Prelude.{Option, Some, None, is_some}
 use Rattle.guest.specs.declared.measured.Sum.{Sum}
 use Rattle.guest.specs.Walked.{marked, copies, Above}
 use Rattle.guest.specs.Measured.{is_in, prop_of, name_at, is_named, less_one, in_table, table_room, Tabled, growth_of, enter_count, enter_words, Entered}
@@ -55,26 +57,30 @@ unfolding is_in
 search_done x zero xs h = refl
 search_done x (suc n) xs h = absurd (omega arith)
 
-pub search_hit : (strings : Bytes) (p : Named) (x : Bytes) (n : ℕ) (xs : List Bytes) → 0 < n → is_named strings p x ≡ true
+pub search_hit : (strings : Bytes) (p : Option ℕ) (x : Bytes) (n : ℕ) (xs : List Bytes) → 0 < n → is_named strings p x ≡ true
     → is_in x (take n (name_at strings p ++ xs)) ≡ true
 unfolding is_in
-search_hit strings (At o) x zero xs h e = absurd (omega arith)
-search_hit strings (At o) x (suc n) xs h e = rw e
-search_hit strings Nothing x n xs h e = never false e refl
+search_hit strings (Some o) x zero xs h e = absurd (omega arith)
+search_hit strings (Some o) x (suc n) xs h e = rw e
+search_hit strings None x n xs h e = never false e refl
 
-pub search_miss : (strings : Bytes) (p : Named) (x : Bytes) (n : ℕ) (xs : List Bytes) → 0 < n → is_named strings p x ≡ false
+pub search_miss : (strings : Bytes) (p : Option ℕ) (x : Bytes) (n : ℕ) (xs : List Bytes) → 0 < n → is_named strings p x ≡ false
     → is_in x (take n (name_at strings p ++ xs)) ≡ is_in x (take (less_one p n) xs)
 unfolding is_in
-search_miss strings (At o) x zero xs h e = absurd (omega arith)
-search_miss strings (At o) x (suc n) xs h e = let z : suc n - 1 ≡ n = omega arith in rw (e, z)
-search_miss strings Nothing x n xs h e = refl
+search_miss strings (Some o) x zero xs h e = absurd (omega arith)
+search_miss strings (Some o) x (suc n) xs h e = let z : suc n - 1 ≡ n = omega arith in rw (e, z)
+search_miss strings None x n xs h e = refl
+
+-- how many are left behind a token
+pub less_some : (p : Option ℕ) (left r : ℕ) → is_some p ≡ true → r ≡ left - 1 → r ≡ less_one p left
+less_some (Some o) left r e f = f
+less_some None left r e f = absurd (cc)
+
+pub less_none : (p : Option ℕ) (left r : ℕ) → is_some p ≡ false → r ≡ left → r ≡ less_one p left
+less_none (Some o) left r e f = absurd (cc)
+less_none None left r e f = f
 
 -- ---- the table
-
-pub table_none : (strings : Bytes) (ws : List ℕ) (n : ℕ) (x : Bytes) → n ≤ 0 → in_table strings ws n x ≡ false
-unfolding in_table
-table_none strings ws zero x h = refl
-table_none strings ws (suc n) x h = absurd (omega arith)
 
 pub table_step : (strings : Bytes) (ws : List ℕ) (n m : ℕ) (x : Bytes) → n ≡ m + 1
     → in_table strings ws n x ≡ (same x (string_at strings (get_or ws (stack_at + m) 0)) || in_table strings ws m x)
@@ -170,22 +176,32 @@ pub growth_new : (x : Bytes) (done : List Bytes) → is_in x done ≡ false → 
 unfolding growth_of
 growth_new x done e = rw e (omega arith)
 
-pub string_past : (strings : Bytes) (o : ℕ) → length strings ≤ o → string_at strings (length strings) ≡ string_at strings o
+string_past : (strings : Bytes) (o : ℕ) → length strings ≤ o → string_at strings (length strings) ≡ string_at strings o
 unfolding string_at
 string_past strings o h = rw (drop_of_length-le strings {i = o} h, drop_of_length-le strings {i = length strings} (omega arith))
 
+-- the offset, or the block's length where it lies past the end
+pub string_within : (strings : Bytes) (o m : ℕ) → (o < length strings → m ≡ o) → (length strings ≤ o → m ≡ length strings) → string_at strings m ≡ string_at strings o
+string_within strings o m f g = by_le (length strings) o
+    (λ h. ap (string_at strings) (g h) ∙ string_past strings o h)
+    (λ h. ap (string_at strings) (f h))
+
 -- ---- the search in the table
 
-pub table_hit : (strings : Bytes) (ws : List ℕ) (n o : ℕ) (x : Bytes) → 0 < n → o ≡ get_or ws (stack_at + (n - 1)) 0 → same x (string_at strings o) ≡ true
-    → in_table strings ws n x ≡ true
-table_hit strings ws n o x h e t =
-    table_step strings ws n (n - 1) x (omega arith) ∙ or_left _ _ (ap (λ (m : ℕ). same x (string_at strings m)) (sym e) ∙ t)
+-- the words of the table, taken out of the work space
+words_any : (strings : Bytes) (ws : List ℕ) (n : ℕ) (x : Bytes) → stack_at + n ≤ length ws
+    → list_any (λ (o : ℕ). same x (string_at strings o)) (part ws stack_at n) ≡ in_table strings ws n x
+unfolding in_table
+words_any strings ws zero x h = refl
+words_any strings ws (suc n) x h =
+    let e : get_or (drop stack_at ws) n 0 ≡ get_or ws (stack_at + n) 0 = get_or-drop stack_at ws n 0 in
+    ap (list_any (λ (o : ℕ). same x (string_at strings o))) (take-suc (drop stack_at ws) n 0 (omega (arith, length-drop stack_at ws)))
+    ∙ list_any-append (λ (o : ℕ). same x (string_at strings o)) (take n (drop stack_at ws)) (get_or (drop stack_at ws) n 0 ∷ [])
+    ∙ rw (e, words_any strings ws n x (omega arith), or_nothing) (or_comm (in_table strings ws n x) (same x (string_at strings (get_or ws (stack_at + n) 0))))
 
-pub table_miss : (strings : Bytes) (ws : List ℕ) (n o : ℕ) (x : Bytes) → 0 < n → o ≡ get_or ws (stack_at + (n - 1)) 0 → same x (string_at strings o) ≡ false
-    → in_table strings ws (n - 1) x ≡ in_table strings ws n x
-table_miss strings ws n o x h e t =
-    let u : same x (string_at strings (get_or ws (stack_at + (n - 1)) 0)) ≡ false = ap (λ (m : ℕ). same x (string_at strings m)) (sym e) ∙ t in
-    sym (table_step strings ws n (n - 1) x (omega arith) ∙ rw u)
+pub table_any : (strings : Bytes) (ws : List ℕ) (m n : ℕ) (x : Bytes) (at : ℕ) → m ≡ n → at ≡ stack_at → stack_at + n ≤ length ws
+    → list_any (λ (o : ℕ). same x (string_at strings o)) (part ws at m) ≡ in_table strings ws n x
+table_any strings ws m n x at e f h = rw (e, f) (words_any strings ws n x h)
 
 -- ---- entering
 
@@ -198,21 +214,18 @@ enter_full ws n o h = (rw (le-ltb n table_room h), rw (le-ltb n table_room h))
 -- ---- known or not
 
 module _ (strings : Bytes) (ws : List ℕ) (n : ℕ) (done : List Bytes) (t : Tabled strings ws n done) (x : Bytes) where
-  pub known_table : (r : Bool) → r ≡ in_table strings ws n x → r ≡ true → true ≡ is_in x done
-  known_table r e f = sym (t.met x (sym e ∙ f))
-
   pub known_not : (r : Bool) → r ≡ in_table strings ws n x → r ≡ false → n < table_room → false ≡ is_in x done
   known_not r e f h = sym (not_passed (is_in x done) (λ g. never (in_table strings ws n x) (t.all h x g) (sym e ∙ f)))
 
 -- ---- the sums behind a name
 
 module _ (t : Bytes) (ws : List ℕ) (done : List Bytes) (sum : Sum) (tb : Tabled t ws sum.names done) where
-  pub entered_none : Entered t ws ws done sum sum Nothing
+  pub entered_none : Entered t ws ws done sum sum None
   unfolding growth_of
   entered_none = record { strings = omega arith; props = omega arith; tabled = rw append-nil tb; kept = only_none ws }
 
   pub entered_known : (offset : ℕ) → is_in (string_at t offset) done ≡ true
-      → Entered t ws ws done sum (record { structure = sum.structure; strings = sum.strings; props = sum.props + 1; names = sum.names }) (At offset)
+      → Entered t ws ws done sum (record { structure = sum.structure; strings = sum.strings; props = sum.props + 1; names = sum.names }) (Some offset)
   entered_known offset h = record {
     strings = omega (arith, growth_known (string_at t offset) done h);
     props = refl;
@@ -222,7 +235,7 @@ module _ (t : Bytes) (ws : List ℕ) (done : List Bytes) (sum : Sum) (tb : Table
 
   pub entered_new : (offset : ℕ) → is_in (string_at t offset) done ≡ false → (len : ℕ) → len ≡ nul_in (drop offset t)
       → (o : ℕ) → string_at t o ≡ string_at t offset → (names : ℕ) (vs : List ℕ) → names ≡ enter_count sum.names → vs ≡ enter_words ws sum.names o
-      → Entered t ws vs done sum (record { structure = sum.structure; strings = sum.strings + len + 1; props = sum.props + 1; names = names }) (At offset)
+      → Entered t ws vs done sum (record { structure = sum.structure; strings = sum.strings + len + 1; props = sum.props + 1; names = names }) (Some offset)
   entered_new offset h len l o q names vs n v = record {
     strings = omega (arith, growth_new (string_at t offset) done h, length_string t offset, l);
     props = refl;
@@ -231,7 +244,7 @@ module _ (t : Bytes) (ws : List ℕ) (done : List Bytes) (sum : Sum) (tb : Table
   }
 
 -- a token that is not copied has no name
-pub not_copied : (k : ℕ → Bool) (n s : ℕ) (kind : Kind) → copies k n s kind ≡ false → prop_of s kind ≡ Nothing
+pub not_copied : (k : ℕ → Bool) (n s : ℕ) (kind : Kind) → copies k n s kind ≡ false → prop_of s kind ≡ None
 not_copied k n s (Begin len) h = refl
 not_copied k n s EndNode h = refl
 not_copied k n s (Prop len name value) h = rw h
@@ -244,10 +257,7 @@ nul_small t o n e = omega (arith, e, nul_le (drop o t), length-drop o t)
 abbrev pub grown : Sum → ℕ → Sum
 grown sum x = record { structure = x; strings = sum.strings; props = sum.props; names = sum.names }
 
-module _ (t : Bytes) (ws vs : List ℕ) (done : List Bytes) (sum r : Sum) (p : Named) (x : ℕ) where
-  pub entered_behind : Entered t ws vs done (grown sum x) r p → Entered t ws vs done sum r p
-  entered_behind e = record { strings = e.strings; props = e.props; tabled = e.tabled; kept = e.kept }
-
+module _ (t : Bytes) (ws vs : List ℕ) (done : List Bytes) (sum r : Sum) (p : Option ℕ) (x : ℕ) where
   pub entered_before : Entered t ws vs done sum r p → Entered t ws vs done sum (grown r x) p
   entered_before e = record { strings = e.strings; props = e.props; tabled = e.tabled; kept = e.kept }
 

@@ -6,6 +6,7 @@ use native.Mathlib.Omega.{arith}
 use lib.ListN.{length, take, drop, length-append}
 use lib.Seq.{take-add, drop_at, length-take-le}
 use borrow.Author.Tests.{lt-ltb, le-ltb}
+use Rattle.std.specs.Int.{next_multiple_of}
 use Rattle.rules.specs.Octets.{Bytes, padded, closed, part, lay}
 use Rattle.rules.specs.Writer.{property_bytes, name_offset, name_growth}
 use Rattle.rules.specs.Written.{Blocks}
@@ -89,6 +90,12 @@ module _ (n : ℕ) (g : Bytes) (done : Size) (b : Begun n g done) where
         size = length_lay g at bs;
       })
 
+-- ---- padding
+
+-- the least multiple of 4, as the library says it
+pub padded_next : (n : ℕ) → next_multiple_of n 4 ≡ padded n
+padded_next n = omega arith
+
 -- ---- a property
 
 module _ (n : ℕ) (g : Bytes) (done : Size) (b : Begun n g done) (name value : Bytes) (f : Fits n g (with_property (blocks_in n g done) name value))
@@ -110,7 +117,7 @@ module _ (n : ℕ) (g : Bytes) (done : Size) (b : Begun n g done) (name value : 
       rw (lt-ltb (name_offset name u) (length u) (omega (arith, o, begun_strings n g done b)), append-nil, ← o) laid
 
   pub property_new : done.strings ≤ offset → (j : Bytes) → j ≡ lay h (n + done.strings) (closed name)
-      → Lays n g j (record { structure = x; strings = done.strings + length name + 1 }) (with_property (blocks_in n g done) name value)
+      → Lays n g j (record { structure = x; strings = done.strings + (length name + 1) }) (with_property (blocks_in n g done) name value)
   unfolding name_growth
   property_new l j k =
       let u : Bytes = part g n done.strings in
@@ -120,7 +127,7 @@ module _ (n : ℕ) (g : Bytes) (done : Size) (b : Begun n g done) (name value : 
       record { structure = omega (arith, room, q, length_property offset value); strings = omega (arith, b.strings, laid.size) } in
       let w : n + done.strings + length (closed name) ≤ length h =
       omega (arith, f.strings, laid.size, length-append u (name_growth name u), begun_strings n g done b, ap length v) in
-      let s = lays_strings n h (record { structure = x; strings = done.strings }) c (closed name) j k w (done.strings + length name + 1)
+      let s = lays_strings n h (record { structure = x; strings = done.strings }) c (closed name) j k w (done.strings + (length name + 1))
       (omega (arith, length_closed name)) in
       rw (t, ← o)
       (record {

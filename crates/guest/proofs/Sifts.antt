@@ -26,7 +26,7 @@ use Rattle.rules.proofs.Laws.Tokens.{if_by}
 use Rattle.rules.specs.Laws.Events.{events_at}
 use Rattle.rules.proofs.Laws.Events.{events_all, events_item, events_end, events_cut}
 use Rattle.rules.proofs.Laws.Writer.{length_begin, length_end, length_property}
-use Rattle.guest.specs.declared.walk.Named.TheVariants.{At, Nothing}
+use Rattle.std.specs.Prelude.{Some, None}
 use Rattle.guest.specs.Walked.{marked, copies, next_of, skipped_of, heard, sift}
 use Rattle.guest.specs.Measured.{names_of, names_in, prop_of, name_at, structure_size}
 
@@ -76,7 +76,7 @@ when_closes true place es = refl
 when_closes false place es = refl
 
 when_has : (c : Bool) (strings : Bytes) (place name : ℕ) (v : Bytes) (es : List Event)
-    → names_of (when c (has (record { place = place; name = string_at strings name; value = v })) es) ≡ name_at strings (if c then At name else Nothing) ++ names_of es
+    → names_of (when c (has (record { place = place; name = string_at strings name; value = v })) es) ≡ name_at strings (if c then Some name else None) ++ names_of es
 unfolding names_of
 when_has true strings place name v es = refl
 when_has false strings place name v es = refl

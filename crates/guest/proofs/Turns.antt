@@ -2,6 +2,7 @@
 use mathlib.Core.Path.{◌≡◌, sym, ap, ◌∙◌}
 use mathlib.Core.Bool.{Bool, true, false}
 use mathlib.Core.List.{List, [], ◌∷◌, ◌++◌}
+use Rattle.std.specs.Prelude.{Option}
 use Prim.Native.Nat.{ℕ, ◌+◌, ◌≤◌, ◌<◌}
 use native.Mathlib.Omega.{arith}
 use lib.ListN.{length, take}
@@ -15,7 +16,6 @@ use Rattle.rules.specs.declared.Token.{Token}
 use Rattle.rules.specs.declared.Token.TheVariants.{Item}
 use Rattle.rules.specs.declared.Kind.{Kind}
 use Rattle.guest.specs.declared.walk.Walk.{Walk}
-use Rattle.guest.specs.declared.walk.Named.{Named}
 use Rattle.guest.specs.Walked.{onward_of}
 use Rattle.guest.specs.Measured.{is_in, prop_of, name_at, is_named, less_one}
 use Rattle.guest.proofs.Sifts.{names_at, names_item, names_stop, next_le, skipped_le}
@@ -42,7 +42,7 @@ module _ (k : ℕ → Bool) (b : Block) (at : ℕ) (w : Walk) (i : at ≤ length
   pub earlier_stop : OneOf (1 ∷ 2 ∷ []) (tag_of tokened.the_type r) → is_in x (take left (names_from k b at w)) ≡ false
   earlier_stop h = ap (λ (l : List Bytes). is_in x (take left l)) (names_stop k b at w.next w.skipped i r e h) ∙ search_none x left
 
-  module _ (kind : Kind) (next : ℕ) (f : r ≡ Item kind next) (p : Named) (q : p ≡ prop_of w.skipped kind) (pos : 0 < left) where
+  module _ (kind : Kind) (next : ℕ) (f : r ≡ Item kind next) (p : Option ℕ) (q : p ≡ prop_of w.skipped kind) (pos : 0 < left) where
     names_next : names_from k b at w ≡ name_at b.strings p ++ names_from k b next (onward_of k w kind)
     names_next = rw q (names_item k b at w.next w.skipped i r e kind next f)
 

@@ -5,7 +5,10 @@ use Rattle.rules.specs.Octets.{Bytes, part}
 use Rattle.rules.specs.Events.{Event}
 use Rattle.rules.specs.Writer.{property_bytes, name_offset, name_growth}
 use Rattle.rules.specs.Written.{Blocks, write_event}
+use Rattle.rules.specs.declared.Kind.{Kind}
+use Rattle.rules.specs.declared.Kind.TheVariants.{Begin, EndNode, Prop, Nop}
 use Rattle.guest.specs.declared.Size.{Size}
+use Rattle.guest.specs.declared.laid.Guest.{Guest}
 
 -- the blocks that stand in the guest so far; `n` is where the strings begin
 abbrev pub blocks_in : (n : ℕ) → Bytes → Size → Blocks
@@ -42,3 +45,24 @@ pub record Lays (n : ℕ) (g h : Bytes) (r : Size) (w : Blocks) : Type 0 where
   pub strings : r.strings ≡ length w.strings
   pub behind : (m : ℕ) → n + length w.strings ≤ m → drop m h ≡ drop m g
   pub size : length h ≡ length g
+
+-- ---- the guest as the code has it: its bytes, where its strings begin, and how far its blocks have come
+
+abbrev pub blocks_of : Guest → Blocks
+blocks_of g = blocks_in g.strings_at g.bytes.now g.size
+
+abbrev pub Begins : Guest → Type 0
+Begins g = Begun g.strings_at g.bytes.now g.size
+
+abbrev pub FitsIn : Guest → Blocks → Type 0
+FitsIn g w = Fits g.strings_at g.bytes.now w
+
+abbrev pub Laid : (g h : Guest) → Blocks → Type 0
+Laid g h w = (h.strings_at ≡ g.strings_at) × Lays g.strings_at g.bytes.now h.bytes.now h.size w
+
+-- a NOP says nothing
+abbrev pub spoken : Kind → Bool
+spoken (Begin len) = true
+spoken EndNode = true
+spoken (Prop len name value) = true
+spoken Nop = false

@@ -1,7 +1,7 @@
 -- What the copy takes, without writing it. A name adds to the strings where no copied property before had it. The names met so far
 -- stand in the work space from the stack on, a word each, the name's offset in the host's strings; where there is no more room, the
 -- tokens before are searched.
-use Rattle.std.specs.Prelude.{◌≡◌, Bool, true, false, ◌||◌, List, [], ◌∷◌, ◌++◌, ℕ, zero, suc, ◌+◌, ◌-◌, ◌*◌, ◌≤◌, ◌<◌, eqb, ltb, length, get_or, if◌then◌else◌}
+use Rattle.std.specs.Prelude.{◌≡◌, Bool, true, false, ◌||◌, List, [], ◌∷◌, ◌++◌, ℕ, zero, suc, ◌+◌, ◌-◌, ◌*◌, ◌≤◌, ◌<◌, eqb, ltb, length, get_or, take, Option, Some, None, if◌then◌else◌}
 use Rattle.rules.specs.Ceilings.{blob_ceiling, work_words}
 use Rattle.rules.specs.Space.{stack_at}
 use Rattle.rules.specs.Octets.{Bytes, lay, same}
@@ -10,8 +10,6 @@ use Rattle.rules.specs.Events.{Event, opens, has, closes, string_at, events_in}
 use Rattle.rules.specs.Writer.{begin_bytes, end_bytes, property_bytes}
 use Rattle.rules.specs.declared.Kind.{Kind}
 use Rattle.rules.specs.declared.Kind.TheVariants.{Begin, EndNode, Prop, Nop}
-use Rattle.guest.specs.declared.walk.Named.{Named}
-use Rattle.guest.specs.declared.walk.Named.TheVariants.{At, Nothing}
 use Rattle.guest.specs.declared.measured.Sum.{Sum}
 use Rattle.guest.specs.declared.Size.{Size}
 use Rattle.guest.specs.Walked.{marked, sift, copy_of, Above}
@@ -34,25 +32,25 @@ unfoldable pub names_in : (structure strings : Bytes) → (ws : List ℕ) → Li
 names_in structure strings ws = names_of (sift (marked ws) 0 0 (events_in (block_of 0 structure strings)))
 
 -- the name's offset, where a token is a property that is copied
-abbrev pub prop_of : (s : ℕ) → Kind → Named
-prop_of s (Begin len) = Nothing
-prop_of s EndNode = Nothing
-prop_of s (Prop len name value) = if eqb s 0 then At name else Nothing
-prop_of s Nop = Nothing
+abbrev pub prop_of : (s : ℕ) → Kind → Option ℕ
+prop_of s (Begin len) = None
+prop_of s EndNode = None
+prop_of s (Prop len name value) = if eqb s 0 then Some name else None
+prop_of s Nop = None
 
 -- its name, if there is one
-abbrev pub name_at : Bytes → Named → List Bytes
-name_at strings (At offset) = string_at strings offset ∷ []
-name_at strings Nothing = []
+abbrev pub name_at : Bytes → Option ℕ → List Bytes
+name_at strings (Some offset) = string_at strings offset ∷ []
+name_at strings None = []
 
 -- whether it is this one
-abbrev pub is_named : Bytes → Named → Bytes → Bool
-is_named strings (At offset) x = same x (string_at strings offset)
-is_named strings Nothing x = false
+abbrev pub is_named : Bytes → Option ℕ → Bytes → Bool
+is_named strings (Some offset) x = same x (string_at strings offset)
+is_named strings None x = false
 
-abbrev pub less_one : Named → ℕ → ℕ
-less_one (At offset) n = n - 1
-less_one Nothing n = n
+abbrev pub less_one : Option ℕ → ℕ → ℕ
+less_one (Some offset) n = n - 1
+less_one None n = n
 
 -- ---- the table of names
 
@@ -71,6 +69,10 @@ pub record Tabled (strings : Bytes) (ws : List ℕ) (n : ℕ) (done : List Bytes
   pub room : work_words ≤ length ws
   pub met : (x : Bytes) → in_table strings ws n x ≡ true → is_in x done ≡ true
   pub all : n < table_room → (x : Bytes) → is_in x done ≡ true → in_table strings ws n x ≡ true
+
+-- the table is of the names of the copied properties so far
+abbrev pub Collected : (structure strings : Bytes) → (ws : List ℕ) → Sum → Type 0
+Collected structure strings ws sum = Tabled strings ws sum.names (take sum.props (names_in structure strings ws))
 
 -- what entering a name leaves: how many words are in use, and the words
 abbrev pub enter_count : (n : ℕ) → ℕ
@@ -99,7 +101,7 @@ pub record Low (sum : Sum) : Type 0 where
   pub props : sum.props ≤ blob_ceiling
 
 -- what the sums are behind a name, if there is one
-pub record Entered (block : Bytes) (ws vs : List ℕ) (done : List Bytes) (sum r : Sum) (name : Named) : Type 0 where
+pub record Entered (block : Bytes) (ws vs : List ℕ) (done : List Bytes) (sum r : Sum) (name : Option ℕ) : Type 0 where
   pub strings : r.strings ≡ sum.strings + growth_of done (name_at block name)
   pub props : r.props ≡ sum.props + length (name_at block name)
   pub tabled : Tabled block vs r.names (done ++ name_at block name)

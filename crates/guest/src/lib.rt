@@ -15,10 +15,10 @@ ghost use Rattle.guest.specs.Walked.{blank, copy_of, sieved, Ready, Above};
 ghost use Rattle.guest.specs.Measured.{Sized};
 ghost use Rattle.guest.specs.Laid.{size_of, Lays};
 
-use laid::{FRONT, close, lay};
-use measured::{Sum, turn};
-use rules::Token;
-use walk::{Walk, onward};
+use laid::{FRONT, Guest, close};
+use measured::Sum;
+use rules::{Block, Token};
+use walk::Walk;
 
 // The lengths of the copy's two blocks, the structure without its END.
 #[derive(Clone, Copy)]
@@ -29,34 +29,24 @@ pub struct Size {
 
 // The sizes of the copy of the nodes that the marks in the work space name, in a structure that passes and with marks that are
 // closed upwards. Only the words from STACK_AT to WORK_WORDS change.
-pub fn measure(structure: &[u8], strings: &[u8], work: &mut [u32]) -> Size
-    requires { (length structure.now ≤ blob_ceiling) × (length strings.now ≤ blob_ceiling) × (work_words ≤ length work.old) }
-    ensures sized { Sized structure.now strings.now work.new result }
+pub fn measure(block: &Block, work: &mut [u32]) -> Size
+    requires { (length block.now.structure.now ≤ blob_ceiling) × (length block.now.strings.now ≤ blob_ceiling) × (work_words ≤ length work.old) }
+    ensures sized { Sized block.now.structure.now block.now.strings.now work.new result }
     ensures kept { Above work.old work.new }
     ensures small { (result.structure ≤ blob_ceiling) × (result.strings ≤ blob_ceiling * (blob_ceiling + 1)) }
-    ensures sieved { (place : ℕ) → Ready place structure.now strings.now work.old → (result.structure ≡ length (write_events blank (sieved place structure.now strings.now work.old)).structure) × (result.strings ≡ length (write_events blank (sieved place structure.now strings.now work.old)).strings) }
+    ensures sieved { (place : ℕ) → Ready place block.now.structure.now block.now.strings.now work.old → (result.structure ≡ length (write_events blank (sieved place block.now.structure.now block.now.strings.now work.old)).structure) × (result.strings ≡ length (write_events blank (sieved place block.now.structure.now block.now.strings.now work.old)).strings) }
 {
     let mut at = 0;
-    let mut walk = Walk {
-        next: 0,
-        skipped: 0,
-    };
-    let mut sum = Sum {
-        structure: 0,
-        strings: 0,
-        props: 0,
-        names: 0,
-    };
-    loop {
-        let Token::Item { kind, next } = tokens::token_at(structure, at) else {
-            return Size {
-                structure: sum.structure,
-                strings: sum.strings,
-            };
-        };
-        sum = turn(structure, strings, work, walk, sum, kind, next - at);
-        walk = onward(work, walk, kind);
+    let mut walk = Walk::START;
+    let mut sum = Sum::START;
+    while let Token::Item { kind, next } = tokens::token_at(block.structure, at) {
+        sum = sum.turn(block, work, walk, kind, next - at);
+        walk = walk.onward(work, kind);
         at = next;
+    }
+    Size {
+        structure: sum.structure,
+        strings: sum.strings,
     }
 }
 
@@ -69,36 +59,36 @@ pub fn total(size: Size) -> usize
 }
 
 // Lays the two blocks of the copy into the guest. The strings begin at n.
-fn blocks(structure: &[u8], strings: &[u8], work: &[u32], guest: &mut [u8], n: usize)
-    requires { (length structure.now ≤ blob_ceiling) × (n ≡ 56 + length (copy_of structure.now strings.now work.now).structure + 4) × (n + length (copy_of structure.now strings.now work.now).strings ≤ length guest.old) }
-    ensures { Lays n guest.old guest.new (size_of (copy_of structure.now strings.now work.now)) (copy_of structure.now strings.now work.now) }
+fn blocks(block: &Block, work: &[u32], guest: &mut [u8], n: usize)
+    requires { (length block.now.structure.now ≤ blob_ceiling) × (n ≡ 56 + length (copy_of block.now.structure.now block.now.strings.now work.now).structure + 4) × (n + length (copy_of block.now.structure.now block.now.strings.now work.now).strings ≤ length guest.old) }
+    ensures { Lays n guest.old guest.new (size_of (copy_of block.now.structure.now block.now.strings.now work.now)) (copy_of block.now.structure.now block.now.strings.now work.now) }
 {
     let mut at = 0;
-    let mut walk = Walk {
-        next: 0,
-        skipped: 0,
+    let mut walk = Walk::START;
+    let mut laid = Guest {
+        bytes: guest,
+        strings_at: n,
+        size: Size {
+            structure: 0,
+            strings: 0,
+        },
     };
-    let mut done = Size {
-        structure: 0,
-        strings: 0,
-    };
-    loop {
-        let Token::Item { kind, next } = tokens::token_at(structure, at) else {
-            return;
-        };
-        done = lay(structure, strings, work, guest, n, walk, done, kind, at);
-        walk = onward(work, walk, kind);
+    while let Token::Item { kind, next } = tokens::token_at(block.structure, at) {
+        if walk.copies(work, kind) {
+            laid.lay(block, kind, at);
+        }
+        walk = walk.onward(work, kind);
         at = next;
     }
 }
 
 // Writes the copy of the nodes that the marks name, whose sizes were measured, to the front of the guest, which has room for it.
 // Its length is 56 + size.structure + 4 + size.strings; what stands behind it in the buffer stays.
-pub fn write(structure: &[u8], strings: &[u8], work: &[u32], guest: &mut [u8], size: Size)
-    requires { (length structure.now ≤ blob_ceiling) × Sized structure.now strings.now work.now size × (56 + size.structure + 4 + size.strings ≤ length guest.old) }
-    ensures { (place : ℕ) → Ready place structure.now strings.now work.now → guest.new ≡ put guest.old 0 (blob_of [] 0 (sieved place structure.now strings.now work.now)) }
+pub fn write(block: &Block, work: &[u32], guest: &mut [u8], size: Size)
+    requires { (length block.now.structure.now ≤ blob_ceiling) × Sized block.now.structure.now block.now.strings.now work.now size × (56 + size.structure + 4 + size.strings ≤ length guest.old) }
+    ensures { (place : ℕ) → Ready place block.now.structure.now block.now.strings.now work.now → guest.new ≡ put guest.old 0 (blob_of [] 0 (sieved place block.now.structure.now block.now.strings.now work.now)) }
 {
     let n = FRONT + size.structure + 4;
-    blocks(structure, strings, work, guest, n);
+    blocks(block, work, guest, n);
     close(guest, size);
 }

@@ -1,14 +1,12 @@
 // What the copy takes, token by token, without writing it.
-ghost use Rattle.std.specs.Prelude.{◌≡◌, ◌+◌, ◌≤◌, length, take, if◌then◌else◌};
+ghost use Rattle.std.specs.Prelude.{◌≡◌, ◌+◌, ◌≤◌, length, take, if◌then◌else◌, Some};
 ghost use Rattle.rules.specs.Ceilings.{blob_ceiling};
-ghost use Rattle.rules.specs.Events.{string_at};
-ghost use Rattle.guest.specs.declared.walk.Named.TheVariants.{At};
 ghost use Rattle.guest.specs.Walked.{marked, copies};
-ghost use Rattle.guest.specs.Measured.{names_in, prop_of, enter_count, enter_words, Tabled, Low, Entered};
+ghost use Rattle.guest.specs.Measured.{names_in, prop_of, enter_count, enter_words, Collected, Low, Entered};
 
 use crate::names::{TABLE_ROOM, known};
-use crate::walk::{Named, Walk, copies, property_of};
-use rules::{Kind, STACK_AT};
+use crate::walk::Walk;
+use rules::{Block, Kind, STACK_AT};
 
 // The bytes that the copy takes so far in its two blocks, how many copied properties there were, and how many words of the
 // table of names are in use.
@@ -18,17 +16,6 @@ pub struct Sum {
     pub strings: usize,
     pub props: usize,
     pub names: usize,
-}
-
-// The offset, or the block's length where it lies past the end: the name is empty at both.
-fn within(strings: &[u8], offset: usize) -> usize
-    ensures place { string_at strings.now result ≡ string_at strings.now offset }
-    ensures small { result ≤ length strings.now }
-{
-    if offset < strings.len() {
-        return offset;
-    }
-    strings.len()
 }
 
 // Enters a name that is new, where the table has room for it, and answers how many words of it are in use.
@@ -43,55 +30,53 @@ fn enter(work: &mut [u32], names: usize, offset: u32) -> usize
     names
 }
 
-// The sums behind a copied property with the name at this offset.
-fn entered(structure: &[u8], strings: &[u8], work: &mut [u32], sum: Sum, offset: usize) -> Sum
-    requires structure_len_bound { (length structure.now ≤ blob_ceiling) × (length strings.now ≤ blob_ceiling) × Low sum }
-    requires tabled { Tabled strings.now work.old sum.names (take sum.props (names_in structure.now strings.now work.old)) }
-    ensures { (result.structure ≡ sum.structure) × Entered strings.now work.old work.new (take sum.props (names_in structure.now strings.now work.old)) sum result (At offset) }
-{
-    if known(structure, strings, work, sum.props, sum.names, offset) {
-        return Sum {
-            structure: sum.structure,
-            strings: sum.strings,
-            props: sum.props + 1,
-            names: sum.names,
-        };
-    }
-    let len = octets::nul(strings, offset);
-    let names = enter(work, sum.names, within(strings, offset) as u32);
-    Sum {
-        structure: sum.structure,
-        strings: sum.strings + len + 1,
-        props: sum.props + 1,
-        names,
-    }
-}
-
-// The sums behind a token of this extent.
-pub fn turn(
-    structure: &[u8],
-    strings: &[u8],
-    work: &mut [u32],
-    walk: Walk,
-    sum: Sum,
-    kind: Kind,
-    extent: usize,
-) -> Sum
-    requires structure_len_bound { (length structure.now ≤ blob_ceiling) × (length strings.now ≤ blob_ceiling) × (sum.structure + extent ≤ blob_ceiling) × Low sum }
-    requires tabled { Tabled strings.now work.old sum.names (take sum.props (names_in structure.now strings.now work.old)) }
-    ensures { (result.structure ≡ sum.structure + (if copies (marked work.old) walk.next walk.skipped kind then extent else 0)) × Entered strings.now work.old work.new (take sum.props (names_in structure.now strings.now work.old)) sum result (prop_of walk.skipped kind) }
-{
-    if !copies(work, walk, kind) {
-        return sum;
-    }
-    let grown = Sum {
-        structure: sum.structure + extent,
-        strings: sum.strings,
-        props: sum.props,
-        names: sum.names,
+impl Sum {
+    // The sums before the first token.
+    pub const START: Sum = Sum {
+        structure: 0,
+        strings: 0,
+        props: 0,
+        names: 0,
     };
-    match property_of(kind, walk.skipped) {
-        Named::At(offset) => entered(structure, strings, work, grown, offset),
-        Named::Nothing => grown,
+
+    // The sums behind a copied property with the name at this offset.
+    fn entered(self, block: &Block, work: &mut [u32], offset: usize) -> Sum
+        requires structure_len_bound { (length block.now.structure.now ≤ blob_ceiling) × (length block.now.strings.now ≤ blob_ceiling) × Low self }
+        requires collected { Collected block.now.structure.now block.now.strings.now work.old self }
+        ensures { (result.structure ≡ self.structure) × Entered block.now.strings.now work.old work.new (take self.props (names_in block.now.structure.now block.now.strings.now work.old)) self result (Some offset) }
+    {
+        let props = self.props + 1;
+        if known(block, work, self, offset) {
+            return Sum { props, ..self };
+        }
+        let len = octets::nul(block.strings, offset);
+        // Past the end the name is empty, as it is at the block's length.
+        let place = offset.min(block.strings.len());
+        let names = enter(work, self.names, place as u32);
+        Sum {
+            strings: self.strings + len + 1,
+            props,
+            names,
+            ..self
+        }
+    }
+
+    // The sums behind a token of this extent.
+    pub fn turn(self, block: &Block, work: &mut [u32], walk: Walk, kind: Kind, extent: usize) -> Sum
+        requires structure_len_bound { (length block.now.structure.now ≤ blob_ceiling) × (length block.now.strings.now ≤ blob_ceiling) × (self.structure + extent ≤ blob_ceiling) × Low self }
+        requires collected { Collected block.now.structure.now block.now.strings.now work.old self }
+        ensures { (result.structure ≡ self.structure + (if copies (marked work.old) walk.next walk.skipped kind then extent else 0)) × Entered block.now.strings.now work.old work.new (take self.props (names_in block.now.structure.now block.now.strings.now work.old)) self result (prop_of walk.skipped kind) }
+    {
+        if !walk.copies(work, kind) {
+            return self;
+        }
+        let grown = Sum {
+            structure: self.structure + extent,
+            ..self
+        };
+        match walk.property_of(kind) {
+            Some(offset) => grown.entered(block, work, offset),
+            None => grown,
+        }
     }
 }

@@ -17,95 +17,59 @@ pub struct Walk {
 fn marked(work: &[u32], i: usize) -> bool
     ensures { result ≡ marked work.now i }
 {
-    if NODE_CEILING <= i {
-        return false;
+    i < NODE_CEILING && octets::word_of(work, MARKS_AT + i) == 1
+}
+
+impl Walk {
+    // The walk before the first token.
+    pub const START: Walk = Walk {
+        next: 0,
+        skipped: 0,
+    };
+
+    // Whether a token is copied.
+    pub fn copies(self, work: &[u32], kind: Kind) -> bool
+        ensures { result ≡ copies (marked work.now) self.next self.skipped kind }
+    {
+        let open = self.skipped == 0;
+        match kind {
+            Kind::Begin { .. } => open && marked(work, self.next),
+            Kind::EndNode | Kind::Prop { .. } => open,
+            Kind::Nop => false,
+        }
     }
-    octets::word_of(work, MARKS_AT + i) == 1
-}
 
-// Whether a token is copied.
-pub fn copies(work: &[u32], w: Walk, kind: Kind) -> bool
-    ensures { result ≡ copies (marked work.now) w.next w.skipped kind }
-{
-    let open = w.skipped == 0;
-    match kind {
-        Kind::Begin { len: _ } => {
-            if open {
-                return marked(work, w.next);
-            }
-            false
+    // The offset of the name, in the host's strings block, of a token that is a property and copied; None for any other.
+    pub fn property_of(self, kind: Kind) -> Option<usize>
+        ensures { result ≡ prop_of self.skipped kind }
+    {
+        match kind {
+            Kind::Prop { name, .. } if self.skipped == 0 => Some(name),
+            _ => None,
         }
-        Kind::EndNode => open,
-        Kind::Prop {
-            len: _,
-            name: _,
-            value: _,
-        } => open,
-        Kind::Nop => false,
     }
-}
 
-// The walk behind a token.
-pub fn onward(work: &[u32], w: Walk, kind: Kind) -> Walk
-    requires { Near w }
-    ensures { result ≡ onward_of (marked work.now) w kind }
-{
-    let taken = copies(work, w, kind);
-    match kind {
-        Kind::Begin { len: _ } => {
-            if taken {
-                return Walk {
-                    next: w.next + 1,
-                    skipped: w.skipped,
-                };
+    // The walk behind a token.
+    pub fn onward(self, work: &[u32], kind: Kind) -> Walk
+        requires { Near self }
+        ensures { result ≡ onward_of (marked work.now) self kind }
+    {
+        match kind {
+            Kind::Begin { .. } => {
+                let next = self.next + 1;
+                if self.copies(work, kind) {
+                    return Walk { next, ..self };
+                }
+                Walk {
+                    next,
+                    skipped: self.skipped + 1,
+                }
             }
-            Walk {
-                next: w.next + 1,
-                skipped: w.skipped + 1,
-            }
+            Kind::EndNode => Walk {
+                skipped: self.skipped.saturating_sub(1),
+                ..self
+            },
+            Kind::Prop { .. } | Kind::Nop => self,
         }
-        Kind::EndNode => {
-            if w.skipped == 0 {
-                return w;
-            }
-            Walk {
-                next: w.next,
-                skipped: w.skipped - 1,
-            }
-        }
-        Kind::Prop {
-            len: _,
-            name: _,
-            value: _,
-        } => w,
-        Kind::Nop => w,
-    }
-}
-
-// The offset of a property's name in the host's strings block, if there is one.
-#[derive(Clone, Copy)]
-pub enum Named {
-    At(usize),
-    Nothing,
-}
-
-// The name of a token that is a property and copied; Nothing for any other.
-pub fn property_of(kind: Kind, skipped: usize) -> Named
-    ensures { result ≡ prop_of skipped kind }
-{
-    match kind {
-        Kind::Prop {
-            len: _,
-            name,
-            value: _,
-        } => {
-            if skipped == 0 {
-                return Named::At(name);
-            }
-            Named::Nothing
-        }
-        Kind::Begin { len: _ } => Named::Nothing,
-        Kind::EndNode => Named::Nothing,
-        Kind::Nop => Named::Nothing,
     }
 }

@@ -2,7 +2,7 @@
 // guest is; then it writes `guest.dtb`, and prints. Nothing is decided here but what to do where a file can't be had.
 #![tactic(auto)]
 
-use program::{Ran, TEXT_ROOM};
+use program::TEXT_ROOM;
 use rules::PROGRAM_CEILING;
 use std::fs::{File, OpenFile, OpenOptions};
 use std::io::{Cursor, ErrorKind, Write};
@@ -56,8 +56,7 @@ fn text(name: &[u8]) -> &str {
 
 // Makes the file guest.dtb.N, N with two digits, and leaves its name in `name`. An error where there is such a file.
 fn attempt<R: Files>(rt: &R, name: &mut [u8], n: u8) -> io::Result<R::File> {
-    octets::put_bytes(name, 0, b"guest.dtb.");
-    octets::put_bytes(name, 10, &[b'0' + n / 10, b'0' + n % 10]);
+    write!(Cursor::new(&mut *name), "guest.dtb.{n:02}")?;
     OpenOptions::new()
         .write(true)
         .create_new(true)
@@ -113,14 +112,14 @@ fn print<R: Print + Eprint>(rt: &R, text: &[u8]) {
 fn run<R: Files + Print + Eprint>(rt: &R, host: &[u8], input: &[u8]) {
     let mut guest = [0u8; PROGRAM_CEILING];
     let mut text = [0u8; TEXT_ROOM];
-    match program::run(host, input, &mut guest, &mut text) {
-        Ran::Derived { text: t, guest: g } => {
-            match write_guest(rt, octets::part(&guest, 0, g)) {
-                Ok(()) => print(rt, octets::part(&text, 0, t)),
-                Err(error) => fail(rt, "cannot write guest.dtb", &error),
-            }
-        }
-        Ran::Refused { text: t } => print(rt, octets::part(&text, 0, t)),
+    let ran = program::run(host, input, &mut guest, &mut text);
+    let written = match ran.guest {
+        Some(len) => write_guest(rt, octets::part(&guest, 0, len)),
+        None => Ok(()),
+    };
+    match written {
+        Ok(()) => print(rt, octets::part(&text, 0, ran.text)),
+        Err(error) => fail(rt, "cannot write guest.dtb", &error),
     }
 }
 

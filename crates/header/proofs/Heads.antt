@@ -1,6 +1,6 @@
 -- The header's judgement, test by test as the code makes them.
-use mathlib.Core.Path.{◌≡◌, refl, sym, ap, ◌∙◌}
-use mathlib.Core.Bool.{Bool, true, false, not}
+use mathlib.Core.Path.{◌≡◌, refl}
+use mathlib.Core.Bool.{not}
 use mathlib.Core.List.{[], ◌∷◌}
 use lib.Dec.{eqb, ltb}
 use lib.ListN.{length}
@@ -20,12 +20,3 @@ pub in_order : (b : Bytes)
     ∷ [])
 unfolding header_judged header_in mistotalled misversioned
 in_order b = refl
-
--- `if !r`, where r is itself the negation of a test
-pub not_taken : (m r : Bool) → r ≡ not m → not r ≡ true → m ≡ true
-not_taken true r e f = refl
-not_taken false r e f = sym (ap not e) ∙ f
-
-pub not_left : (m r : Bool) → r ≡ not m → not r ≡ false → m ≡ false
-not_left true r e f = sym (ap not e) ∙ f
-not_left false r e f = refl

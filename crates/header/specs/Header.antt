@@ -1,12 +1,10 @@
 -- What the header's judge answers, in the paper's numbers, and the tests that it is made of.
-use Rattle.std.specs.Prelude.{◌≡◌, Bool, not, ◌||◌, eqb, ltb, length}
+use Rattle.std.specs.Prelude.{◌≡◌, Bool, Result, Ok, Err, not, ◌||◌, eqb, ltb, length}
 use Rattle.rules.specs.Ceilings.{blob_ceiling}
 use Rattle.rules.specs.Octets.{Bytes, word_at}
 use Rattle.rules.specs.Outcome.{Outcome, refuses, passes}
 use Rattle.rules.specs.Blob.{header_in, header_judged}
 use Rattle.header.specs.declared.Parts.{Parts}
-use Rattle.header.specs.declared.Head.{Head}
-use Rattle.header.specs.declared.Head.TheVariants.{Good, Bad}
 use Rattle.header.specs.declared.Refusal.{Refusal}
 use Rattle.header.specs.declared.Refusal.TheVariants.{Short, Magic, Total, Version, Layout}
 
@@ -32,6 +30,6 @@ pub record Found (b : Bytes) (p : Parts) : Type 0 where
   pub strings : p.strings ≡ (header_in b).strings
   pub strings_size : p.strings_size ≡ (header_in b).strings_size
 
-abbrev pub Heads : Bytes → Head → Type 0
-Heads b (Good parts) = Found b parts
-Heads b (Bad refusal) = header_judged b ≡ refused refusal
+abbrev pub Heads : Bytes → Result Parts Refusal → Type 0
+Heads b (Ok parts) = Found b parts
+Heads b (Err refusal) = header_judged b ≡ refused refusal

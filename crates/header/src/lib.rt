@@ -34,13 +34,6 @@ pub enum Refusal {
     Layout,
 }
 
-// Where the blocks stand, or why the header is refused.
-#[derive(Clone, Copy)]
-pub enum Head {
-    Good(Parts),
-    Bad(Refusal),
-}
-
 // A number of the header.
 fn field(blob: &[u8], at: usize) -> usize
     ensures { (result ≡ word_at blob.now at) × (result < 4294967296) }
@@ -53,12 +46,11 @@ fn closed(blob: &[u8], from: usize, limit: usize) -> bool
     requires { (from < 4294967296) × (limit < 4294967296) }
     ensures { result ≡ not (missing (entries_from (suc (length blob.now)) blob.now from limit)) }
 {
-    let mut at = from;
-    while at + 16 <= limit {
+    // A pair takes 16 bytes, and ends at the limit or before.
+    for at in (from..limit.saturating_sub(15)).step_by(16) {
         if zero_pair(blob, at) {
             return true;
         }
-        at += 16;
     }
     false
 }
@@ -68,13 +60,11 @@ fn zero_pair(blob: &[u8], at: usize) -> bool
     requires { at < 4294967296 }
     ensures { result ≡ zero_pair blob.now at }
 {
-    if octets::long(blob, at) != 0 {
-        return false;
-    }
-    octets::long(blob, at + 8) == 0
+    octets::long(blob, at) == 0 && octets::long(blob, at + 8) == 0
 }
 
 // Refusal 5.
+#[tactic(auto, unfolding(rules::specs::Blob::misplaced, rules::specs::Blob::header_in, rules::specs::Blob::entries_in))]
 fn misplaced(blob: &[u8]) -> bool
     ensures { result ≡ misplaced blob.now }
 {
@@ -82,72 +72,54 @@ fn misplaced(blob: &[u8]) -> bool
     let structure = field(blob, 8);
     let structure_size = field(blob, 36);
     let strings = field(blob, 12);
-    if reservations < FDT_HEADER_SIZE {
-        return true;
-    }
-    if reservations % 8 != 0 {
-        return true;
-    }
-    if structure % 4 != 0 {
-        return true;
-    }
-    if structure_size % 4 != 0 {
-        return true;
-    }
-    if !closed(blob, reservations, structure) {
-        return true;
-    }
-    if strings < structure + structure_size {
-        return true;
-    }
-    field(blob, 4) < strings + field(blob, 32)
+    reservations < FDT_HEADER_SIZE
+        || reservations % 8 != 0
+        || structure % 4 != 0
+        || structure_size % 4 != 0
+        || !closed(blob, reservations, structure)
+        || strings < structure + structure_size
+        || field(blob, 4) < strings + field(blob, 32)
 }
 
 // Refusal 3.
+#[tactic(auto, unfolding(crate::specs::Header::mistotalled, rules::specs::Ceilings::blob_ceiling))]
 fn mistotalled(blob: &[u8]) -> bool
     ensures { result ≡ mistotalled blob.now }
 {
     let total = field(blob, 4);
-    if total < FDT_HEADER_SIZE {
-        return true;
-    }
-    if blob.len() < total {
-        return true;
-    }
-    BLOB_CEILING < total
+    total < FDT_HEADER_SIZE || blob.len() < total || BLOB_CEILING < total
 }
 
 // Refusal 4.
+#[tactic(auto, unfolding(crate::specs::Header::misversioned))]
 fn misversioned(blob: &[u8]) -> bool
     ensures { result ≡ misversioned blob.now }
 {
-    if octets::word(blob, 20) != FDT_VERSION {
-        return true;
-    }
-    octets::word(blob, 24) != FDT_LAST_COMP_VERSION
+    octets::word(blob, 20) != FDT_VERSION || octets::word(blob, 24) != FDT_LAST_COMP_VERSION
 }
 
-// Judges the header of the blob that begins with the bytes lent. Answers Good, where its structure block and its strings block
-// stand, both inside; or Bad, the first of refusals 1 to 5. Nothing is asked of the caller.
-pub fn judge(blob: &[u8]) -> Head
+// Judges the header of the blob that begins with the bytes lent. Answers where its structure block and its strings block
+// stand, both inside; or the first of refusals 1 to 5. Nothing is asked of the caller.
+#[tactic(auto, using(crate::proofs::Heads::in_order), unfolding(rules::specs::Blob::header_in))]
+pub fn judge(blob: &[u8]) -> Result<Parts, Refusal>
     ensures { Heads blob.now result }
 {
     if blob.len() < FDT_HEADER_SIZE {
-        return Head::Bad(Refusal::Short);
+        return Err(Refusal::Short);
     }
     if octets::word(blob, 0) != FDT_MAGIC {
-        return Head::Bad(Refusal::Magic);
+        return Err(Refusal::Magic);
     }
     if mistotalled(blob) {
-        return Head::Bad(Refusal::Total);
+        return Err(Refusal::Total);
     }
     if misversioned(blob) {
-        return Head::Bad(Refusal::Version);
+        return Err(Refusal::Version);
     }
     if misplaced(blob) {
-        return Head::Bad(Refusal::Layout);
+        return Err(Refusal::Layout);
     }
-    Head::Good(Parts {
+    Ok(Parts {
         structure: field(blob, 8),
         structure_size: field(blob, 36),
         strings: field(blob, 12),

@@ -1,5 +1,5 @@
 -- The tests of `property_phandle` are those of a property, between its own.
-use Rattle.std.specs.Prelude.{if◌then◌else◌}
+use Rattle.std.specs.Prelude.{Result, Ok, Err, if◌then◌else◌}
 use mathlib.Core.Path.{◌≡◌, refl, sym, ap, ◌∙◌}
 use mathlib.Core.Bool.{Bool, true, false}
 use mathlib.Core.List.{List, [], ◌∷◌, ◌++◌}
@@ -15,10 +15,8 @@ use Rattle.rules.specs.Writer.{State, impossible, name_offset, test, strings_of,
 use Rattle.rules.proofs.Laws.Octets.{length_be32}
 use Rattle.rules.proofs.Laws.Writer.{length_property}
 use Rattle.judge.specs.Meaning.{number_of}
-use Rattle.judge.specs.Judged.{place_of, sized, placed, phandle_placed}
+use Rattle.judge.specs.Judged.{outcome_of, sized, placed, phandle_placed}
 use Rattle.judge.specs.declared.Error.{Error}
-use Rattle.judge.specs.declared.Place.{Place}
-use Rattle.judge.specs.declared.Place.TheVariants.{At, Not}
 use Rattle.judge.proofs.Properties.{gives_judged, refuses_judged}
 
 first_append : (ts us : List Test) → first (ts ++ us) ≡ (first ts then first us)
@@ -54,24 +52,24 @@ module _
     (a : impossible w lent (length strings) ≡ false)
     (b : ltb (length phandles) w.phandle_count ≡ false)
     (c : one_of value (take w.phandle_count phandles) ≡ false)
-    (r : Place)
-    (f : place_of r ≡ placed w lent strings false phandle_name 16) where
+    (r : Result ℕ Error)
+    (f : outcome_of r ≡ placed w lent strings false phandle_name 16) where
   -- the property is refused
-  pub phandle_not : (e : Error) → r ≡ Not e → refuses (number_of e) 0 ≡ phandle_placed w lent strings phandles value
+  pub phandle_not : (e : Error) → r ≡ Err e → refuses (number_of e) 0 ≡ phandle_placed w lent strings phandles value
   unfolding placed phandle_placed
   phandle_not e t =
-      rw (phandle_on w lent strings phandles value a b c, ← refuses_judged (sized w lent strings false phandle_name 16) (number_of e) (name_offset phandle_name (strings_of w strings)) (ap place_of (sym t) ∙ f))
+      rw (phandle_on w lent strings phandles value a b c, ← refuses_judged (sized w lent strings false phandle_name 16) (number_of e) (name_offset phandle_name (strings_of w strings)) (ap outcome_of (sym t) ∙ f))
 
   -- it passes, and the table is full
-  pub phandle_full : (offset : ℕ) → r ≡ At offset → length phandles ≡ w.phandle_count → refuses 33 0 ≡ phandle_placed w lent strings phandles value
+  pub phandle_full : (offset : ℕ) → r ≡ Ok offset → length phandles ≡ w.phandle_count → refuses 33 0 ≡ phandle_placed w lent strings phandles value
   unfolding placed phandle_placed
   phandle_full offset t h =
-      let v = (gives_judged (sized w lent strings false phandle_name 16) offset (name_offset phandle_name (strings_of w strings)) (ap place_of (sym t) ∙ f)).0 in
+      let v = (gives_judged (sized w lent strings false phandle_name 16) offset (name_offset phandle_name (strings_of w strings)) (ap outcome_of (sym t) ∙ f)).0 in
       rw (phandle_on w lent strings phandles value a b c, ← v, lt-ltb (length phandles) (w.phandle_count + 1) (omega arith))
 
   -- it passes, and the table is not
-  pub phandle_at : (offset : ℕ) → r ≡ At offset → w.phandle_count < length phandles → gives offset ≡ phandle_placed w lent strings phandles value
+  pub phandle_at : (offset : ℕ) → r ≡ Ok offset → w.phandle_count < length phandles → gives offset ≡ phandle_placed w lent strings phandles value
   unfolding placed phandle_placed
   phandle_at offset t h =
-      let v = gives_judged (sized w lent strings false phandle_name 16) offset (name_offset phandle_name (strings_of w strings)) (ap place_of (sym t) ∙ f) in
+      let v = gives_judged (sized w lent strings false phandle_name 16) offset (name_offset phandle_name (strings_of w strings)) (ap outcome_of (sym t) ∙ f) in
       rw (phandle_on w lent strings phandles value a b c, ← v.0, le-ltb (length phandles) (w.phandle_count + 1) (omega arith)) (ap gives v.1)

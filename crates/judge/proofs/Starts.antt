@@ -1,17 +1,17 @@
 -- The reservation block as it is written, and how long a start is.
-use mathlib.Core.Path.{◌≡◌, refl, sym, ap, ◌∙◌}
+use mathlib.Core.Path.{◌≡◌, refl, sym}
 use mathlib.Core.List.{List, [], ◌∷◌, ◌++◌, append_assoc, append-nil}
-use Prim.Native.Nat.{ℕ, suc, zero, ◌+◌, ◌*◌, ◌≤◌, ◌<◌, min}
-use native.Mathlib.Nat.{zero-min, min-zero, suc-min-suc}
+use Prim.Native.Nat.{ℕ, ◌+◌, ◌*◌, ◌≤◌, ◌<◌}
 use native.Mathlib.Omega.{arith}
 use native.Mathlib.Numerals.{add-one}
-use lib.ListN.{length, take, get_or, length-append, length-map, length-take, get_or-map}
-use lib.Seq.{take-suc, length-take-le}
-use Rattle.rules.specs.Octets.{Bytes, be32, be64, zeros}
+use lib.ListN.{length, take, drop, get_or, length-append, length-map, drop_of_length-le}
+use lib.Seq.{take_all, drop-cons}
+use Rattle.rules.specs.Octets.{Bytes, be32, be64, words64, zeros, lay}
 use Rattle.rules.specs.Reservations.{Entry, entry_bytes, block}
 use Rattle.rules.specs.Writer.{start_bytes}
-use Rattle.rules.proofs.Laws.Octets.{length_zeros}
+use Rattle.rules.proofs.Laws.Octets.{length_zeros, lay_lay}
 use Rattle.rules.proofs.Laws.Header.{length_entries}
+use Rattle.rules.proofs.Laws.Writer.{length_words64}
 use Rattle.reservation.specs.declared.Reservation.{Reservation}
 use Rattle.reservation.specs.Made.{entry_of, entries_of}
 
@@ -19,51 +19,45 @@ use Rattle.reservation.specs.Made.{entry_of, entries_of}
 abbrev pub nowhere : Reservation
 nowhere = record { address = 0; size = 0 }
 
-entries_append : (a b : List Entry) → entry_bytes (a ++ b) ≡ entry_bytes a ++ entry_bytes b
-unfolding entry_bytes
-entries_append [] b = refl
-entries_append (e ∷ a) b = rw (entries_append a b) (simp append_assoc)
+block_none : block [] ≡ zeros 16
+unfolding block entry_bytes be64 be32
+block_none = refl
 
-entries_one : (e : Entry) → entry_bytes (e ∷ []) ≡ be64 e.address ++ be64 e.size
-unfolding entry_bytes
-entries_one e = rw append-nil
-
-module _ (rs : List Reservation) (i : ℕ) where
-  -- a loop over reservations: one more is laid in
-  pub entries_more : i < length rs → entry_bytes (take (i + 1) (entries_of rs)) ≡ entry_bytes (take i (entries_of rs)) ++ (be64 (get_or rs i nowhere).address ++ be64 (get_or rs i nowhere).size)
-  entries_more h =
-      let l : i < length (entries_of rs) = omega (arith, length-map rs entry_of) in
-      let e : get_or (entries_of rs) i (entry_of nowhere) ≡ entry_of (get_or rs i nowhere) = get_or-map entry_of rs i nowhere in
-      rw (add-one i, take-suc (entries_of rs) i (entry_of nowhere) l, entries_append, e) (ap (λ (x : Bytes). entry_bytes (take i (entries_of rs)) ++ x) (entries_one (entry_of (get_or rs i nowhere))))
-
-  pub entries_length : i ≤ length rs → length (entry_bytes (take i (entries_of rs))) ≡ 16 * i
-  entries_length h =
-      let l : i ≤ length (entries_of rs) = omega (arith, length-map rs entry_of) in
-      length_entries (take i (entries_of rs)) ∙ rw (length-take-le i (entries_of rs) l)
+block_cons : (e : Entry) (es : List Entry) → block (e ∷ es) ≡ words64 (e.address ∷ e.size ∷ []) ++ block es
+unfolding block entry_bytes words64
+block_cons e es = simp (append_assoc, append-nil)
 
 -- the pair of zeros that closes the block
 pub block_bytes : (es : List Entry) → block es ≡ entry_bytes es ++ zeros 16
 unfolding block be64 be32
 block_bytes es = refl
 
+module _ (d : Bytes) (at : ℕ) (rs : List Reservation) (i : ℕ) where
+  -- a loop over reservations: one more is laid in
+  pub block_more : i < length rs → (address size : ℕ) → address ≡ (get_or rs i nowhere).address → size ≡ (get_or rs i nowhere).size
+      → (next : Bytes) → next ≡ lay d at (words64 (address ∷ size ∷ []))
+      → lay d at (block (entries_of (drop i rs))) ≡ lay next (at + 16) (block (entries_of (drop (i + 1) rs)))
+  block_more h address size p q next e =
+      let pair = words64 (address ∷ size ∷ []) in
+      let rest = block (entries_of (drop (i + 1) rs)) in
+      let front : block (entries_of (drop i rs)) ≡ pair ++ rest = rw (drop-cons rs i nowhere h, add-one i, p, q) (block_cons _ _) in
+      let long : length pair ≡ 16 = length_words64 (address ∷ size ∷ []) in
+      rw (front, e, ← long) (sym (lay_lay d at pair rest))
+
+  -- all are: the pair of zeros is left
+  pub block_end : length rs ≤ i → lay d at (block (entries_of (drop i rs))) ≡ lay d at (zeros 16)
+  block_end h = rw (drop_of_length-le rs {i = i} h, block_none)
+
 pub start_bytes_lem : (es : List Entry) → start_bytes es ≡ zeros 40 ++ block es
 unfolding start_bytes
 start_bytes_lem es = refl
 
--- to take more than there are is to take all
-take_min {ℓ} : {A : Type ℓ} (n : ℕ) (l : List A) → take (min n (length l)) l ≡ take n l
-take_min zero l = ap (λ (k : ℕ). take k l) (zero-min (length l))
-take_min (suc n) [] = ap (λ (k : ℕ). take k []) (min-zero (suc n))
-take_min (suc n) (x ∷ xs) = ap (λ (k : ℕ). take k (x ∷ xs)) (suc-min-suc n (length xs)) ∙ ap (λ r. x ∷ r) (take_min n xs)
+module _ (rs : List Reservation) where
+  -- as many as there are is all
+  pub taken : take (length rs) (entries_of rs) ≡ entries_of rs
+  taken = take_all (length rs) (entries_of rs) (omega (arith, length-map rs entry_of))
 
-module _ (rs : List Reservation) (count : ℕ) (long : length rs ≡ 32) where
-  many : length (entries_of rs) ≡ 32
-  many = length-map rs entry_of ∙ long
-
-  pub counted_all : (n : ℕ) → n ≡ min count 32 → take n (entries_of rs) ≡ take count (entries_of rs)
-  counted_all n e = ap (λ (k : ℕ). take k (entries_of rs)) (e ∙ ap (min count) (sym many)) ∙ take_min count (entries_of rs)
-
-  pub length_start : length (start_bytes (take count (entries_of rs))) ≡ 56 + 16 * min count 32
+  pub length_start : length (start_bytes (entries_of rs)) ≡ 56 + 16 * length rs
   length_start =
-      let n : length (take count (entries_of rs)) ≡ min count 32 = length-take count (entries_of rs) ∙ ap (min count) many in
-      rw (start_bytes_lem, length-append (zeros 40), block_bytes (take count (entries_of rs)), length-append (entry_bytes (take count (entries_of rs))), length_entries (take count (entries_of rs)), n, length_zeros 40, length_zeros 16) (omega arith)
+      let es = entries_of rs in
+      rw (start_bytes_lem, length-append (zeros 40), block_bytes es, length-append (entry_bytes es), length_entries es, length-map rs entry_of, length_zeros 40, length_zeros 16) (omega arith)

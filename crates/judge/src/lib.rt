@@ -8,8 +8,9 @@ ghost use Rattle.rules.specs.Lists.{one_of};
 ghost use Rattle.rules.specs.Octets.{padded, has_nul};
 ghost use Rattle.rules.specs.Writer.{room, impossible, begin_judged, end_judged, finish_judged, bad_list};
 ghost use Rattle.judge.specs.Meaning.{state_of, number_of};
-ghost use Rattle.judge.specs.Judged.{verdict_of, place_of, placed, phandle_placed};
+ghost use Rattle.judge.specs.Judged.{outcome_of, placed, phandle_placed};
 
+use append::Word;
 use rules::{BLOB_CEILING, OPEN_CEILING};
 
 // Why a call is refused: 20 to 34, in this order. The writer passes it on under its own name.
@@ -48,29 +49,31 @@ pub enum Error {
 }
 
 // The paper's number of a refusal: 20 to 34.
-pub fn number(error: Error) -> u64
-    ensures { result ≡ number_of error }
-{
-    match error {
-        Error::PropertyBeforeBeginNode => 20,
-        Error::PropertyAfterEndNode => 21,
-        Error::PropertyValueTooLarge => 22,
-        Error::TotalSizeTooLarge => 23,
-        Error::InvalidString => 24,
-        Error::OutOfOrderEndNode => 25,
-        Error::UnclosedNode => 26,
-        Error::InvalidMemoryReservation => 27,
-        Error::OverlappingMemoryReservations => 28,
-        Error::InvalidNodeName => 29,
-        Error::InvalidPropertyName => 30,
-        Error::NodeDepthTooLarge => 31,
-        Error::DuplicatePhandle => 32,
-        Error::NoRoom => 33,
-        Error::ImpossibleState => 34,
+impl From<Error> for u64 {
+    ghost from_gives = { λ error n. n ≡ number_of error };
+
+    fn from(error: Error) -> u64 {
+        match error {
+            Error::PropertyBeforeBeginNode => 20,
+            Error::PropertyAfterEndNode => 21,
+            Error::PropertyValueTooLarge => 22,
+            Error::TotalSizeTooLarge => 23,
+            Error::InvalidString => 24,
+            Error::OutOfOrderEndNode => 25,
+            Error::UnclosedNode => 26,
+            Error::InvalidMemoryReservation => 27,
+            Error::OverlappingMemoryReservations => 28,
+            Error::InvalidNodeName => 29,
+            Error::InvalidPropertyName => 30,
+            Error::NodeDepthTooLarge => 31,
+            Error::DuplicatePhandle => 32,
+            Error::NoRoom => 33,
+            Error::ImpossibleState => 34,
+        }
     }
 }
 
-// The writer's state, as a plain value to judge.
+// The writer's state, as a plain value to judge. The writer's own type, which has the calls, stands in a crate above this one.
 #[derive(Clone, Copy)]
 pub struct State {
     pub data_len: usize,
@@ -83,84 +86,39 @@ pub struct State {
     pub boot_cpuid_phys: u32,
 }
 
-// What the tests of a call come to.
-#[derive(Clone, Copy)]
-pub enum Judged {
-    Passed,
-    No(Error),
-}
-
-// What the tests of a property come to: where its name stands in the strings block or goes, or why not.
-#[derive(Clone, Copy)]
-pub enum Place {
-    At(usize),
-    Not(Error),
-}
-
 // Of the bytes lent, how many count.
 fn room(lent: usize) -> usize
     ensures { result ≡ room lent }
 {
-    if lent < BLOB_CEILING {
-        return lent;
-    }
-    BLOB_CEILING
+    lent.min(BLOB_CEILING)
 }
 
-// Whether a buffer is too small for `more` bytes behind those used. The sum may be no usize, so it is not made.
+// Whether a buffer is too small for `more` bytes behind those used. The sum may be no usize.
 pub(crate) fn short(lent: usize, used: usize, more: usize) -> bool
     ensures { result ≡ ltb (room lent) (used + more) }
 {
-    let most = room(lent);
-    if most < used {
-        return true;
-    }
-    most - used < more
-}
-
-// How many of `more` bytes a buffer grants behind those used: all of them, or 0 where it is too small.
-pub fn granted(lent: usize, used: usize, more: usize) -> usize
-    ensures { result ≡ (if ltb (room lent) (used + more) then 0 else more) }
-{
-    if short(lent, used, more) {
-        return 0;
-    }
-    more
+    used.checked_add(more).is_none_or(|end| room(lent) < end)
 }
 
 // Whether there is a NUL in the string: true or false.
 pub fn has_nul(s: &[u8]) -> bool
     ensures { result ≡ has_nul s.now }
 {
-    octets::nul(s, 0) < s.len()
+    s.contains(&0)
 }
 
 // Whether a state is finished or its numbers cannot be so.
 fn impossible(w: State, data_lent: usize, strings_lent: usize) -> bool
     ensures { result ≡ impossible (state_of w) data_lent strings_lent }
 {
-    if w.finished {
-        return true;
-    }
-    if w.data_len < 56 {
-        return true;
-    }
-    if w.data_len % 4 != 0 {
-        return true;
-    }
-    if w.off_dt_struct < 56 {
-        return true;
-    }
-    if w.data_len < w.off_dt_struct {
-        return true;
-    }
-    if OPEN_CEILING < w.node_depth {
-        return true;
-    }
-    if room(data_lent) < w.data_len {
-        return true;
-    }
-    room(strings_lent) < w.strings_len
+    w.finished
+        || w.data_len < 56
+        || w.data_len % 4 != 0
+        || w.off_dt_struct < 56
+        || w.data_len < w.off_dt_struct
+        || OPEN_CEILING < w.node_depth
+        || room(data_lent) < w.data_len
+        || room(strings_lent) < w.strings_len
 }
 
 // The bytes that the opening of a node of this name takes.
@@ -171,61 +129,58 @@ pub fn begin_size(name: &[u8]) -> usize
 }
 
 // The tests of opening a node: ImpossibleState (34), NodeDepthTooLarge (31), InvalidString (24), InvalidNodeName (29),
-// NoRoom (33), the first that fails; or Passed.
-pub fn begin_node(w: State, data_lent: usize, name: &[u8]) -> Judged
-    ensures { verdict_of result ≡ begin_judged (state_of w) data_lent name.now }
+// NoRoom (33), the first that fails; or Ok.
+pub fn begin_node(w: State, data_lent: usize, name: &[u8]) -> Result<(), Error>
+    ensures { outcome_of result ≡ begin_judged (state_of w) data_lent name.now }
 {
     if impossible(w, data_lent, BLOB_CEILING) {
-        return Judged::No(Error::ImpossibleState);
+        return Err(Error::ImpossibleState);
     }
     if OPEN_CEILING <= w.node_depth {
-        return Judged::No(Error::NodeDepthTooLarge);
+        return Err(Error::NodeDepthTooLarge);
     }
     if has_nul(name) {
-        return Judged::No(Error::InvalidString);
+        return Err(Error::InvalidString);
     }
     if !names::node_name_valid(name) {
-        return Judged::No(Error::InvalidNodeName);
+        return Err(Error::InvalidNodeName);
     }
     if short(data_lent, w.data_len, begin_size(name)) {
-        return Judged::No(Error::NoRoom);
+        return Err(Error::NoRoom);
     }
-    Judged::Passed
+    Ok(())
 }
 
-// The tests of closing a node: ImpossibleState (34), OutOfOrderEndNode (25), NoRoom (33), the first that fails; or Passed.
-pub fn end_node(w: State, data_lent: usize, depth: usize) -> Judged
-    ensures { verdict_of result ≡ end_judged (state_of w) data_lent depth }
+// The tests of closing a node: ImpossibleState (34), OutOfOrderEndNode (25), NoRoom (33), the first that fails; or Ok.
+pub fn end_node(w: State, data_lent: usize, depth: usize) -> Result<(), Error>
+    ensures { outcome_of result ≡ end_judged (state_of w) data_lent depth }
 {
     if impossible(w, data_lent, BLOB_CEILING) {
-        return Judged::No(Error::ImpossibleState);
+        return Err(Error::ImpossibleState);
     }
-    if depth == 0 {
-        return Judged::No(Error::OutOfOrderEndNode);
-    }
-    if depth != w.node_depth {
-        return Judged::No(Error::OutOfOrderEndNode);
+    if depth == 0 || depth != w.node_depth {
+        return Err(Error::OutOfOrderEndNode);
     }
     if short(data_lent, w.data_len, 4) {
-        return Judged::No(Error::NoRoom);
+        return Err(Error::NoRoom);
     }
-    Judged::Passed
+    Ok(())
 }
 
-// The tests of closing the blob: ImpossibleState (34), UnclosedNode (26), NoRoom (33), the first that fails; or Passed.
-pub fn finish(w: State, data_lent: usize, strings_lent: usize) -> Judged
-    ensures { verdict_of result ≡ finish_judged (state_of w) data_lent strings_lent }
+// The tests of closing the blob: ImpossibleState (34), UnclosedNode (26), NoRoom (33), the first that fails; or Ok.
+pub fn finish(w: State, data_lent: usize, strings_lent: usize) -> Result<(), Error>
+    ensures { outcome_of result ≡ finish_judged (state_of w) data_lent strings_lent }
 {
     if impossible(w, data_lent, strings_lent) {
-        return Judged::No(Error::ImpossibleState);
+        return Err(Error::ImpossibleState);
     }
     if w.node_depth != 0 {
-        return Judged::No(Error::UnclosedNode);
+        return Err(Error::UnclosedNode);
     }
     if short(data_lent, w.data_len, 4 + w.strings_len) {
-        return Judged::No(Error::NoRoom);
+        return Err(Error::NoRoom);
     }
-    Judged::Passed
+    Ok(())
 }
 
 // The bytes that a property takes whose value has n.
@@ -250,18 +205,11 @@ pub fn string_size(val: &[u8]) -> usize
     value_size(val.len() + 1)
 }
 
-// The bytes that a property takes whose value is these 32-bit numbers.
-pub fn words_size(cells: &[u32]) -> usize
-    ensures { result ≡ 12 + padded (length cells.now * 4) }
+// The bytes that a property takes whose value is these numbers.
+pub fn words_size<T: Word>(words: &[T]) -> usize
+    ensures { result ≡ 12 + padded (length words.now * T.SIZE) }
 {
-    value_size(cells.len() * 4)
-}
-
-// The bytes that a property takes whose value is these 64-bit numbers.
-pub fn longs_size(cells: &[u64]) -> usize
-    ensures { result ≡ 12 + padded (length cells.now * 8) }
-{
-    value_size(cells.len() * 8)
+    value_size(T::size_of(words))
 }
 
 // By how much strings of `used` bytes grow for a name of n that was sought and `offset` was answered.
@@ -285,29 +233,29 @@ pub fn property(
     own: bool,
     name: &[u8],
     size: usize,
-) -> Place
-    ensures { place_of result ≡ placed (state_of w) data_lent strings.now own name.now size }
+) -> Result<usize, Error>
+    ensures { outcome_of result ≡ placed (state_of w) data_lent strings.now own name.now size }
 {
     if impossible(w, data_lent, strings.len()) {
-        return Place::Not(Error::ImpossibleState);
+        return Err(Error::ImpossibleState);
     }
     if own {
-        return Place::Not(Error::InvalidString);
+        return Err(Error::InvalidString);
     }
     if w.node_ended {
-        return Place::Not(Error::PropertyAfterEndNode);
+        return Err(Error::PropertyAfterEndNode);
     }
     if w.node_depth == 0 {
-        return Place::Not(Error::PropertyBeforeBeginNode);
+        return Err(Error::PropertyBeforeBeginNode);
     }
     if has_nul(name) {
-        return Place::Not(Error::InvalidString);
+        return Err(Error::InvalidString);
     }
     if !names::property_name_valid(name) {
-        return Place::Not(Error::InvalidPropertyName);
+        return Err(Error::InvalidPropertyName);
     }
     if short(data_lent, w.data_len, size) {
-        return Place::Not(Error::NoRoom);
+        return Err(Error::NoRoom);
     }
     let offset = append::find_name(octets::part(strings, 0, w.strings_len), name);
     if short(
@@ -315,19 +263,16 @@ pub fn property(
         w.strings_len,
         growth(offset, w.strings_len, name.len()),
     ) {
-        return Place::Not(Error::NoRoom);
+        return Err(Error::NoRoom);
     }
-    Place::At(offset)
+    Ok(offset)
 }
 
 // Whether a list of strings, each closed by NUL, has a last one that is not: true or false.
 pub fn bad_list(s: &[u8]) -> bool
     ensures { result ≡ bad_list s.now }
 {
-    if s.len() == 0 {
-        return false;
-    }
-    s[s.len() - 1] != 0
+    s.last().copied().unwrap_or(0) != 0
 }
 
 // Whether the number is one of the first n.
@@ -335,38 +280,33 @@ fn noted(phandles: &[u32], n: usize, val: u32) -> bool
     requires { n ≤ length phandles.now }
     ensures { result ≡ one_of val (take n phandles.now) }
 {
-    let mut i = 0;
-    while i < n {
-        if val == phandles[i] {
-            return true;
-        }
-        i += 1;
-    }
-    false
+    phandles[..n].contains(&val)
 }
 
 // The tests of the property `phandle`, which takes 16 bytes of data: ImpossibleState (34), also where more numbers are noted
 // than lent; DuplicatePhandle (32); what `property` refuses; NoRoom (33) for another number; or where the name stands or goes.
-pub fn phandle(w: State, data_lent: usize, strings: &[u8], phandles: &[u32], val: u32) -> Place
-    ensures { place_of result ≡ phandle_placed (state_of w) data_lent strings.now phandles.now val }
+pub fn phandle(
+    w: State,
+    data_lent: usize,
+    strings: &[u8],
+    phandles: &[u32],
+    val: u32,
+) -> Result<usize, Error>
+    ensures { outcome_of result ≡ phandle_placed (state_of w) data_lent strings.now phandles.now val }
 {
     if impossible(w, data_lent, strings.len()) {
-        return Place::Not(Error::ImpossibleState);
+        return Err(Error::ImpossibleState);
     }
     let n = w.phandles_len;
     if phandles.len() < n {
-        return Place::Not(Error::ImpossibleState);
+        return Err(Error::ImpossibleState);
     }
     if noted(phandles, n, val) {
-        return Place::Not(Error::DuplicatePhandle);
+        return Err(Error::DuplicatePhandle);
     }
-    match property(w, data_lent, strings, false, b"phandle", 16) {
-        Place::Not(e) => Place::Not(e),
-        Place::At(offset) => {
-            if phandles.len() == n {
-                return Place::Not(Error::NoRoom);
-            }
-            Place::At(offset)
-        }
+    let offset = property(w, data_lent, strings, false, b"phandle", 16)?;
+    if phandles.len() == n {
+        return Err(Error::NoRoom);
     }
+    Ok(offset)
 }

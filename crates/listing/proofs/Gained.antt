@@ -138,9 +138,6 @@ module _ (count : ℕ) (ws : List ℕ) (n s p : ℕ) (low : s ≤ node_ceiling) 
 
 -- ---- each with those below it
 
-pub gathers_refl : (count : ℕ) (ws : List ℕ) (n : ℕ) (of : ℕ → List ℕ) (cs : List ℕ) → Marked ws count n → Gathers count ws n of cs ws n cs
-gathers_refl count ws n of cs m = record { apart = only_none ws; marked = m; list = refl; stack = λ s. refl }
-
 pub below_alike : (b : Block) (ws vs : List ℕ) (count s p : ℕ) → count ≤ node_ceiling → Apart ws vs → stack_in vs s ≡ stack_in ws s
     → below_in b vs count s p ≡ below_in b ws count s p
 below_alike b ws vs count s p few a e =
@@ -161,9 +158,6 @@ module _ (count : ℕ) (ws : List ℕ) (n : ℕ) (of : ℕ → List ℕ) (all vs
             ∙ a.list;
         stack = λ s. d.stack s ∙ a.stack s;
       }
-
-  pub gathers_all : length cs ≤ i → Gathers count ws n of all vs m []
-  gathers_all h = rw (drop_of_length-le cs {i = i} h) at a
 
 pub gathers_list : (count : ℕ) (ws : List ℕ) (n : ℕ) (of : ℕ → List ℕ) (all vs : List ℕ) (m : ℕ)
     → Gathers count ws n of all vs m [] → list_in vs m ≡ list_in ws n ++ gather of (list_in ws n) all

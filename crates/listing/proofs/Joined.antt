@@ -115,9 +115,6 @@ module _ (b : Block) (ws : List ℕ) (count : ℕ) (conf : List ℕ) (q : Asked 
         let e : stack_in ws₁ k ≡ take k first = sym (take-take k s (drop stack_at ws₁) h) ∙ ap (take k) start_stack in
         start_nodes x (rw (take-append-drop k first) at (Memᴰ.append_left (drop k first) (rw e at m)))
 
-    pub start_room : work_words ≤ length ws₁
-    start_room = omega (arith, q.kept.room, start_apart.size)
-
     -- ---- no node listed
 
     module _ (ws₂ : List ℕ) (z : Gains count ws₁ 0 [] ws₂ 0 []) where
@@ -126,27 +123,27 @@ module _ (b : Block) (ws : List ℕ) (count : ℕ) (conf : List ℕ) (q : Asked 
 
       -- ---- the configured nodes
 
-      module _ (ws₃ : List ℕ) (n₃ : ℕ) (g : (a : Block) → Gathers count ws₂ 0 (with_below a ws₂ count 0) conf ws₃ n₃ []) where
+      module _ (ws₃ : List ℕ) (n₃ : ℕ) (g : Gathers count ws₂ 0 (with_below b ws₂ count 0) conf ws₃ n₃ []) where
         alone : (c : ℕ) → with_below b ws₂ count 0 c ≡ c ∷ []
         unfolding keep stack_in
         alone c = refl
 
         conf-list : list_in ws₃ n₃ ≡ conf
         conf-list =
-            gathers_list count ws₂ 0 (with_below b ws₂ count 0) conf ws₃ n₃ (g b)
+            gathers_list count ws₂ 0 (with_below b ws₂ count 0) conf ws₃ n₃ g
             ∙ ap (λ (l : List ℕ). l ++ gather (with_below b ws₂ count 0) l conf) (no_list ws₂)
             ∙ gather_by (with_below b ws₂ count 0) (λ c. c ∷ []) conf [] (λ c m. alone c)
             ∙ gather_distinct q.once [] (λ x m k. Memᴰ.not-nil k)
 
         conf-stack : stack_in ws₃ s ≡ first
-        conf-stack = (g b).stack s ∙ z.stack s ∙ start_stack
+        conf-stack = g.stack s ∙ z.stack s ∙ start_stack
 
         conf-apart : Apart ws ws₃
-        conf-apart = only_then start_apart (only_then z.apart (g b).apart)
+        conf-apart = only_then start_apart (only_then z.apart g.apart)
 
         -- ---- the given nodes
 
-        module _ (ws₄ : List ℕ) (n₄ : ℕ) (h : (a : Block) → Gathers count ws₃ n₃ (with_below a ws₃ count s) conf ws₄ n₄ []) where
+        module _ (ws₄ : List ℕ) (n₄ : ℕ) (h : Gathers count ws₃ n₃ (with_below b ws₃ count s) conf ws₄ n₄ []) where
           below_one : (c : ℕ) → c ∈ conf → below_in b ws₃ count s c ≡ nodes_below (frame tree) c
           below_one c m =
               ap (λ (t : Tree). keep (below t c) (stack_in ws₃ s)) (tree_alike b ws ws₃ count q.kept.few conf-apart.before)
@@ -156,20 +153,20 @@ module _ (b : Block) (ws : List ℕ) (count : ℕ) (conf : List ℕ) (q : Asked 
           given-list : list_in ws₄ n₄ ≡ given_nodes (frame tree) conf
           unfolding given_nodes
           given-list =
-              gathers_list count ws₃ n₃ (with_below b ws₃ count s) conf ws₄ n₄ (h b)
+              gathers_list count ws₃ n₃ (with_below b ws₃ count s) conf ws₄ n₄ h
               ∙ ap (λ (l : List ℕ). l ++ gather (with_below b ws₃ count s) l conf) conf-list
               ∙ ap (λ (l : List ℕ). conf ++ l) (gather_noted (below_in b ws₃ count s) conf conf (λ c m. m) ∙ gather_by (below_in b ws₃ count s) (nodes_below (frame tree)) conf conf below_one)
 
           given-stack : stack_in ws₄ s ≡ first
-          given-stack = (h b).stack s ∙ conf-stack
+          given-stack = h.stack s ∙ conf-stack
 
           given-apart : Apart ws ws₄
-          given-apart = only_then conf-apart (h b).apart
+          given-apart = only_then conf-apart h.apart
 
           given-many : n₄ ≡ s
           unfolding starts
           given-many =
-              sym (list_length_lem ws₄ (h b).marked.room n₄ (omega (arith, (h b).marked.short, (h b).marked.few)))
+              sym (list_length_lem ws₄ h.marked.room n₄ (omega (arith, h.marked.short, h.marked.few)))
               ∙ ap length given-list
               ∙ sym (sort_length (path tree) (given_nodes (frame tree) conf))
               ∙ sym started.many
@@ -179,7 +176,7 @@ module _ (b : Block) (ws : List ℕ) (count : ℕ) (conf : List ℕ) (q : Asked 
 
           pub given-piled : Piled ws₄ count n₄ s
           given-piled = record {
-            marked = (h b).marked;
+            marked = h.marked;
             least = omega (arith, given-many);
             nodes = rw given-stack start_nodes;
           }

@@ -8,7 +8,6 @@ use native.Mathlib.Numerals.{add-one}
 use lib.Dec.{eqb}
 use lib.ListN.{length, get_or, drop, drop_of_length-le}
 use lib.Seq.{drop-cons, get_or-take, get_or-drop}
-use borrow.Author.Tests.{eq-eqb, ne_eqb}
 use Rattle.rules.specs.Ceilings.{node_ceiling, work_words}
 use Rattle.rules.specs.Octets.{lay}
 use Rattle.rules.specs.Blob.{Block}
@@ -18,19 +17,9 @@ use Rattle.rules.specs.Listing.{within}
 use Rattle.rules.specs.Space.{list_at, list_in}
 use Rattle.rules.proofs.Laws.Octets.{lay_one_other}
 use Rattle.rules.proofs.Laws.Lists.{keep_yes, keep_no}
-use Rattle.rules.specs.Laws.Tabled.{tree_in}
 use Rattle.rules.proofs.Laws.Kept.{tree_alike, only_none, only_then}
 use Rattle.listing.specs.Sift.{spared, Sifts, Sifted}
 use Rattle.listing.proofs.Parts.{list_length_lem, list_list, apart_list}
-
--- ---- the test
-
-module _ (b : Block) (ws : List ℕ) (count : ℕ) (excl : List ℕ) (x : ℕ) where
-  pub spared_root : x ≡ 0 → false ≡ spared b ws count excl x
-  spared_root e = rw (eq-eqb x 0 e)
-
-  pub spared_other : (x ≡ 0 → ⊥) → (r : Bool) → r ≡ within (frame (tree_in b ws count)) excl x → not r ≡ spared b ws count excl x
-  spared_other ne r e = rw (e, ne_eqb x 0 ne)
 
 -- ---- one node
 

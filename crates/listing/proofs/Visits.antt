@@ -3,10 +3,10 @@ use mathlib.Core.Path.{◌≡◌, refl, sym, ap, ◌∙◌}
 use mathlib.Core.Bool.{true, false}
 use mathlib.Core.List.Memᴰ
 use mathlib.Core.List.{List, [], ◌∷◌, map}
+use Rattle.std.specs.Prelude.{Option as Maybe, Some, None}
 use mathlib.Core.Option.{Option}
 use Prim.Native.Nat.{ℕ, ◌+◌, ◌/◌, ◌%◌, ◌≤◌, ◌<◌}
 use Prim.Native.String.{String}
-use native.Mathlib.Omega.{arith}
 use lib.Dec.{eqb}
 use lib.ListN.{length}
 use Rattle.rules.specs.Ceilings.{node_ceiling}
@@ -24,12 +24,10 @@ use Rattle.rules.proofs.Laws.Tabled.{node_in_lem, count_named_lem, look_small}
 use Rattle.rules.specs.Laws.Kept.{Alike, Kept}
 use Rattle.rules.proofs.Laws.Kept.{tree_alike, look_alike}
 use Rattle.tokens.specs.declared.Property as next
-use Rattle.tokens.specs.declared.Property.TheVariants.{Here, Missing}
 use Rattle.tokens.specs.Properties.{behind_at, property_at}
 use Rattle.tokens.proofs.Properties.{behind_props, props_none, props_here}
-use Rattle.references.specs.declared.scan.Next.{Next}
-use Rattle.references.specs.declared.scan.Next.TheVariants.{Reference as Refers, End}
-use Rattle.references.specs.Scan.{scan_at, told, Ahead, scan_in, Scanned}
+use Rattle.references.specs.declared.scan.Reference as found
+use Rattle.references.specs.Scan.{scan_at, told, scan_in, Scanned}
 use Rattle.listing.specs.declared.note.Ends.{Ends}
 use Rattle.listing.specs.State.{Piled, Stacks}
 use Rattle.listing.specs.Visit.{property_of}
@@ -63,30 +61,27 @@ module _ (b : Block) (ws : List ℕ) (count n s : ℕ) (o : Option String) (v : 
   abbrev rest : ℕ → List ℕ
   rest i = targets_from b ws count o v i
 
-  module _ (vs : List ℕ) (m k i : ℕ) (a : Stacks count ws n s (rest 0) vs m k (rest i)) (r : Next) (g : Scanned b vs count o v i r) where
-    here : (q : Next) → r ≡ q → scan_in b ws count o v i ≡ told (scan_in b vs count o v) q
+  module _ (vs : List ℕ) (m k i : ℕ) (a : Stacks count ws n s (rest 0) vs m k (rest i)) (r : Maybe found.Reference) (g : Scanned b vs count o v i r) where
+    here : (q : Maybe found.Reference) → r ≡ q → scan_in b ws count o v i ≡ told (scan_in b vs count o v) q
     here q e =
         sym (scan_alike b ws vs count a.piled.marked.few a.apart.before o v i)
         ∙ g.list
         ∙ ap (told (scan_in b vs count o v)) e
 
-    pub scan_stop : r ≡ End → Stacks count ws n s (rest 0) vs m k []
-    scan_stop e = rw (here End e) at a
+    pub scan_stop : r ≡ None → Stacks count ws n s (rest 0) vs m k []
+    scan_stop e = rw (here None e) at a
 
-    module _ (t x c j : ℕ) (e : r ≡ Refers t x c j) where
-      pub scan-ahead : (i < j) × (j ≤ length v / 4)
-      scan-ahead = let h : Ahead i (length v / 4) (Refers t x c j) = rw e at g.ahead in (omega arith, omega arith)
+    module _ (x : found.Reference) (e : r ≡ Some x) where
+      pub scan-target : x.target < count
+      scan-target = scan_small b ws count o v i (record { target = x.target; index = x.index; cells = x.cells }) (rw (here (Some x) e) (Memᴰ.head refl))
 
-      pub scan-target : t < count
-      scan-target = scan_small b ws count o v i (record { target = t; index = x; cells = c }) (rw (here (Refers t x c j) e) (Memᴰ.head refl))
-
-      turn : rest i ≡ t ∷ rest j
+      turn : rest i ≡ x.target ∷ rest x.next
       turn =
-          ap (map target) (here (Refers t x c j) e)
-          ∙ ap (λ (l : List Reference). t ∷ map target l) (scan_alike b ws vs count a.piled.marked.few a.apart.before o v j)
+          ap (map target) (here (Some x) e)
+          ∙ ap (λ (l : List Reference). x.target ∷ map target l) (scan_alike b ws vs count a.piled.marked.few a.apart.before o v x.next)
 
-      pub scan-next : (us : List ℕ) (p q : ℕ) → Stacks count vs m k (t ∷ []) us p q [] → Stacks count ws n s (rest 0) us p q (rest j)
-      scan-next us p q d = stacks_trans a (rw turn (stacks_more count vs m k (t ∷ []) us p q d (rest j)))
+      pub scan-next : (us : List ℕ) (p q : ℕ) → Stacks count vs m k (x.target ∷ []) us p q [] → Stacks count ws n s (rest 0) us p q (rest x.next)
+      scan-next us p q d = stacks_trans a (rw turn (stacks_more count vs m k (x.target ∷ []) us p q d (rest x.next)))
 
 -- ---- a property
 
@@ -143,16 +138,16 @@ module _ (b : Block) (ws : List ℕ) (count n s x : ℕ) (h : x < count) where
       rw start (stacks_refl ws count n s (ahead at) p)
 
   module _ (vs : List ℕ) (d : Ends) (at : ℕ) (i : at ≤ length b.structure) (a : Stacks count ws n s all vs d.list d.stack (ahead at))
-      (r : next.Property) (e : r ≡ property_at b.structure at) where
-    pub visit_stop : r ≡ Missing → Stacks count ws n s all vs d.list d.stack []
+      (r : Maybe next.Property) (e : r ≡ property_at b.structure at) where
+    pub visit_stop : r ≡ None → Stacks count ws n s all vs d.list d.stack []
     visit_stop f = rw (props_none b at i r e f, targets_none (tree_in b ws count)) at a
 
-    pub visit_on : (here len name value next : ℕ) → r ≡ Here here len name value next → (v : Bytes) → v ≡ part b.structure value len → (us : List ℕ) (g : Ends)
-        → ((p : ℕ) → Stacks count vs d.list d.stack (map target (references_of edition1 (tree_in b vs count) (property_of p (string_at b.strings name) v)))
+    pub visit_on : (p : next.Property) → r ≡ Some p → (v : Bytes) → v ≡ part b.structure p.value p.len → (us : List ℕ) (g : Ends)
+        → ((place : ℕ) → Stacks count vs d.list d.stack (map target (references_of edition1 (tree_in b vs count) (property_of place (string_at b.strings p.name) v)))
         us g.list g.stack [])
-        → Stacks count ws n s all us g.list g.stack (ahead next)
+        → Stacks count ws n s all us g.list g.stack (ahead p.next)
     unfolding targets_in
-    visit_on here len name value next f v q us g c =
+    visit_on p f v q us g c =
         let t : tree_in b vs count ≡ tree_in b ws count = tree_alike b ws vs count a.piled.marked.few a.apart.before in
-        let w = stacks_more count vs d.list d.stack _ us g.list g.stack (rw (t, q) at (c (b.place + here))) (ahead next) in
-        stacks_trans a (rw (props_here b at i r e here len name value next f) w)
+        let w = stacks_more count vs d.list d.stack _ us g.list g.stack (rw (t, q) at (c (b.place + p.at))) (ahead p.next) in
+        stacks_trans a (rw (props_here b at i r e p f) w)

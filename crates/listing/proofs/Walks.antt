@@ -63,9 +63,6 @@ module _ (ws : List ℕ) (count n s : ℕ) (p : Piled ws count n s) (some : 0 < 
     pub walk_apart : Apart ts vs
     walk_apart = only_then a d.apart
 
-    pub walk_less : count + k - m < count + s - n
-    walk_less = omega (arith, d.level, p.marked.short, d.piled.marked.short)
-
 empty_stack : (ws : List ℕ) → stack_in ws 0 ≡ []
 unfolding stack_in
 empty_stack ws = refl

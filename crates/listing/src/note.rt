@@ -21,20 +21,18 @@ pub fn enter(work: &mut [u32], n: usize, x: usize)
     octets::put_word_of(work, LIST_AT + n, x as u32);
 }
 
-// Notes node x unless it is noted: it is marked, listed last, and put on top of the stack.
-pub fn note(work: &mut [u32], e: Ends, x: usize) -> Ends
-    requires { (x < node_ceiling) × ((e.list ≤ node_ceiling) × (e.stack ≤ node_ceiling)) }
-    ensures { (count : ℕ) → x < count → Piled work.old count e.list e.stack → Stacks count work.old e.list e.stack (x ∷ []) work.new result.list result.stack [] }
-{
-    let n = e.list;
-    let s = e.stack;
-    if octets::word_of(work, MARKS_AT + x) != 0 {
-        return Ends { list: n, stack: s };
-    }
-    enter(work, n, x);
-    octets::put_word_of(work, STACK_AT + s, x as u32);
-    Ends {
-        list: n + 1,
-        stack: s + 1,
+impl Ends {
+    // Notes node x unless it is noted: it is marked, listed last, and put on top of the stack.
+    pub fn note(&mut self, work: &mut [u32], x: usize)
+        requires { (x < node_ceiling) × ((self.old.list ≤ node_ceiling) × (self.old.stack ≤ node_ceiling)) }
+        ensures { (count : ℕ) → x < count → Piled work.old count self.old.list self.old.stack → Stacks count work.old self.old.list self.old.stack (x ∷ []) work.new self.new.list self.new.stack [] }
+    {
+        if octets::word_of(work, MARKS_AT + x) != 0 {
+            return;
+        }
+        enter(work, self.list, x);
+        octets::put_word_of(work, STACK_AT + self.stack, x as u32);
+        self.list += 1;
+        self.stack += 1;
     }
 }

@@ -1,47 +1,26 @@
 // The work list: the last node of the stack is taken and visited until none is left.
-ghost use Rattle.rules.specs.Blob.{block_of};
+// Block, work space and count are lent side by side, for the reason that lib.rt has.
 ghost use Rattle.rules.specs.Laws.Kept.{Kept};
+ghost use Rattle.rules.specs.Laws.Lent.{block_lent};
 ghost use Rattle.listing.specs.State.{Piled};
 ghost use Rattle.listing.specs.Walk.{Walked};
 
 use crate::note::Ends;
 use crate::visit::visit;
-use rules::STACK_AT;
+use rules::{Block, STACK_AT};
 
 // Visits the nodes on the stack, the last first, and those that are put there on the way. Answers how many nodes are listed
 // then.
-pub fn walk(
-    structure: &[u8],
-    strings: &[u8],
-    place: usize,
-    work: &mut [u32],
-    count: usize,
-    listed: usize,
-    starts: usize,
-) -> usize
-    requires kept { Kept (block_of place structure.now strings.now) work.old count }
-    requires piled { Piled work.old count listed starts }
-    ensures { Walked (block_of place structure.now strings.now) work.old count listed starts work.new result }
+pub fn walk(block: &Block, work: &mut [u32], count: usize, ends: Ends) -> usize
+    requires kept { Kept (block_lent block.now) work.old count }
+    requires piled { Piled work.old count ends.list ends.stack }
+    ensures { Walked (block_lent block.now) work.old count ends.list ends.stack work.new result }
 {
-    let mut n = listed;
-    let mut s = starts;
-    while 0 < s {
-        let top = s - 1;
-        let x = octets::word_of(work, STACK_AT + top) as usize;
-        let e = visit(
-            structure,
-            strings,
-            place,
-            work,
-            count,
-            x,
-            Ends {
-                list: n,
-                stack: top,
-            },
-        );
-        n = e.list;
-        s = e.stack;
+    let mut ends = ends;
+    while 0 < ends.stack {
+        ends.stack -= 1;
+        let x = octets::word_of(work, STACK_AT + ends.stack) as usize;
+        visit(block, work, count, x, &mut ends);
     }
-    n
+    ends.list
 }

@@ -1,2 +1,1 @@
--- What the tests of names promise is said in rules: Names. Here: the characters of either kind of name.
-pub mod Chars
+-- What the tests of names promise is said in rules: Names.

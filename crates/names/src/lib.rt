@@ -4,7 +4,6 @@
 ghost use Rattle.std.specs.Prelude.{◌≡◌};
 ghost use Rattle.rules.specs.Names.{node_char, property_char, node_name_valid, property_name_valid, node_name_reads, property_name_reads};
 ghost use Rattle.rules.specs.Lists.{every};
-ghost use Rattle.names.specs.Chars.{char_of};
 
 use rules::{NODE_NAME_MAX_LEN, PROPERTY_NAME_MAX_LEN};
 
@@ -14,44 +13,21 @@ use rules::{NODE_NAME_MAX_LEN, PROPERTY_NAME_MAX_LEN};
 fn node_name_valid_char(c: u8) -> bool
     ensures { result ≡ node_char c }
 {
-    match c {
-        b'0'..=b'9' | b'A'..=b'Z' | b'a'..=b'z' | b',' | b'.' | b'_' | b'+' | b'-' => true,
-        _ => false,
-    }
+    c.is_ascii_alphanumeric() || b",._+-".contains(&c)
 }
 
 // Whether c may stand in a property name.
 fn property_name_valid_char(c: u8) -> bool
     ensures { result ≡ property_char c }
 {
-    match c {
-        b'?' | b'#' => true,
-        _ => node_name_valid_char(c),
-    }
+    node_name_valid_char(c) || b"?#".contains(&c)
 }
 
-// Whether c may stand in a name: a property's, or else a node's.
-fn valid_char(c: u8, property: bool) -> bool
-    ensures { result ≡ char_of property c }
+// Whether all of s may stand in a node name.
+fn node_name_chars(s: &[u8]) -> bool
+    ensures { result ≡ every node_char s.now }
 {
-    if property {
-        return property_name_valid_char(c);
-    }
-    node_name_valid_char(c)
-}
-
-// Whether all of s may stand in a name: a property's, or else a node's.
-fn name_chars(s: &[u8], property: bool) -> bool
-    ensures { result ≡ every (char_of property) s.now }
-{
-    let mut i = 0;
-    while i < s.len() {
-        if !valid_char(s[i], property) {
-            return false;
-        }
-        i += 1;
-    }
-    true
+    s.iter().all(|c| node_name_valid_char(*c))
 }
 
 // Whether `name` is a node name, "node-name" or "node-name@unit-address": empty, or 1 to 31 characters before the `@`, and
@@ -60,47 +36,28 @@ pub fn node_name_valid(name: &[u8]) -> bool
     ensures { result ≡ node_name_valid name.now }
 {
     // DTSpec has no empty name, but roots have it, and other tools take it.
-    if name.len() == 0 {
+    if name.is_empty() {
         return true;
     }
     let n = octets::length_to(name, 0, b'@');
-    if n == 0 {
-        return false;
-    }
-    if NODE_NAME_MAX_LEN < n {
-        return false;
-    }
-    if !name_chars(&name[..n], false) {
-        return false;
-    }
-    if n < name.len() {
-        let unit_address = n + 1;
-        return name_chars(&name[unit_address..], false);
-    }
-    true
+    (1..=NODE_NAME_MAX_LEN).contains(&n)
+        && node_name_chars(&name[..n])
+        && node_name_chars(name.get(n + 1..).unwrap_or(&[]))
 }
 
 // Whether `name` is a property name: 1 to 31 characters.
 pub fn property_name_valid(name: &[u8]) -> bool
     ensures { result ≡ property_name_valid name.now }
 {
-    if name.len() == 0 {
-        return false;
-    }
-    if PROPERTY_NAME_MAX_LEN < name.len() {
-        return false;
-    }
-    name_chars(name, true)
+    (1..=PROPERTY_NAME_MAX_LEN).contains(&name.len())
+        && name.iter().all(|c| property_name_valid_char(*c))
 }
 
 // Whether the reader takes `name` for a node below the root: a node name that is not empty.
 pub fn node_name_reads(name: &[u8]) -> bool
     ensures { result ≡ node_name_reads name.now }
 {
-    if name.len() == 0 {
-        return false;
-    }
-    node_name_valid(name)
+    !name.is_empty() && node_name_valid(name)
 }
 
 // Whether the reader takes `name` for a property.

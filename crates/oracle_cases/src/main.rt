@@ -1,6 +1,6 @@
 // Answers questions from standard input, a line to each: the tests of names, the maker of reservations, the table of references
-// and every call of the writer. oracle/ asks it while it runs the given Rust beside; the file `stdin` beside this source holds questions that it once
-// asked, and `stdout` what the Rust answered.
+// and every call of the writer. oracle/ asks it while it runs the given Rust beside; the file `stdin` beside this source holds
+// questions that it once asked, and `stdout` what the Rust answered.
 //
 // A question is a line of 45 characters and one of bytes. The first has a letter, two numbers of 16 hexadecimal digits, and two
 // of 4, which say how many characters of the second line are the name and how many the value. Of the buffers as much is lent as
@@ -10,15 +10,16 @@
 mod script;
 mod tell;
 
-use cases::{within, within_longs, within_words};
+use cases::within;
 use references::rows;
-use reservation::{Made, Reservation};
+use reservation::Reservation;
 use rules::RESERVATION_CEILING;
-use script::{number, unhex, word};
-use std::io;
+use script::unhex;
+use scripts::{number, word};
 use std::io::{Read, Write};
+use std::{array, io};
 use streams::read_full;
-use writer::{FdtWriter, Written};
+use writer::{FdtWriter, Refused};
 
 const DATA: usize = 4096;
 
@@ -27,6 +28,9 @@ const STRINGS: usize = 1024;
 const PHANDLES: usize = 64;
 
 const HEAD: usize = 46;
+
+// As many reservations as a start can be lent: one more than it takes.
+const ENTRIES: usize = RESERVATION_CEILING + 1;
 
 const TEXT: usize = 1024;
 
@@ -38,7 +42,7 @@ const FILL: u8 = 238;
 const FILL_WORD: u32 = 7;
 
 // The writer's state, and how much of each buffer is lent.
-#[derive(Drop)]
+#[derive(Clone, Copy)]
 struct Session {
     w: FdtWriter,
     data: usize,
@@ -53,203 +57,75 @@ impl Session {
     }
 }
 
-#[derive(Drop)]
-enum Turn {
-    More(Session),
-    Over,
-}
-
-// A question: its letter, its two numbers, and how many bytes of name and value there are.
-#[derive(Drop)]
-struct Asked {
+// A question: its letter, its two numbers, and the bytes of its name and of its value.
+#[derive(Clone, Copy)]
+struct Asked<'a> {
     op: u8,
     a: u64,
     b: u64,
-    name: usize,
-    val: usize,
+    name: &'a [u8],
+    val: &'a [u8],
 }
 
-// The reservation, or r where there is none such.
-fn entry(address: u64, size: u64, r: Reservation) -> Reservation {
-    match Reservation::new(address, size) {
-        Made::Reserved(made) => made,
-        Made::InvalidMemoryReservation => r,
-    }
+// A start with the first `count` reservations of those that the bytes spell, sixteen to each.
+fn start(data: &mut [u8], count: usize, val: &[u8]) -> Result<FdtWriter, Refused> {
+    let all: [Reservation; ENTRIES] = array::from_fn(|i| {
+        scripts::reservation(octets::long(val, i * 16), octets::long(val, i * 16 + 8))
+    });
+    let n = count.min(ENTRIES);
+    FdtWriter::new_with_mem_reserv(data, &all[..n])
 }
 
-// Those that the bytes spell, sixteen to each.
-fn entries(s: &[u8], r: Reservation) -> [Reservation; RESERVATION_CEILING] {
-    let mut rs = [r; RESERVATION_CEILING];
-    for i in 0..RESERVATION_CEILING {
-        rs[i] = entry(octets::long(s, i * 16), octets::long(s, i * 16 + 8), r);
-    }
-    rs
+// The first n, or all of them where there are fewer.
+fn first<T>(n: usize, s: &[T]) -> &[T] {
+    &s[..within(n, s)]
 }
 
-fn start(data: &mut [u8], count: usize, val: &[u8]) -> Written {
-    match Reservation::new(0, 1) {
-        Made::Reserved(r) => FdtWriter::new_with_mem_reserv(data, entries(val, r), count),
-        Made::InvalidMemoryReservation => FdtWriter::new(data),
-    }
-}
-
-// A state with another number.
-fn altered(mut w: FdtWriter, field: u64, n: usize) -> FdtWriter {
-    match field {
-        0 => {
-            w.data_len = n;
-        }
-        1 => {
-            w.off_dt_struct = n;
-        }
-        2 => {
-            w.strings_len = n;
-        }
-        3 => {
-            w.phandles_len = n;
-        }
-        _ => {
-            w.node_depth = n;
-        }
-    }
-    w
-}
-
-fn words(val: &[u8]) -> [u32; 3] {
-    [
-        octets::word(val, 0),
-        octets::word(val, 4),
-        octets::word(val, 8),
-    ]
-}
-
-fn longs(val: &[u8]) -> [u64; 3] {
-    [
-        octets::long(val, 0),
-        octets::long(val, 8),
-        octets::long(val, 16),
-    ]
-}
-
-// The numbers that the value spells, up to three.
-fn cells(w: FdtWriter, data: &mut [u8], strings: &mut [u8], name: &[u8], val: &[u8]) -> Written {
-    let all = words(val);
-    let n = within_words(val.len() / 4, &all);
-    w.property_array_u32(data, strings, name, &all[..n])
-}
-
-fn doubles(w: FdtWriter, data: &mut [u8], strings: &mut [u8], name: &[u8], val: &[u8]) -> Written {
-    let all = longs(val);
-    let n = within_longs(val.len() / 8, &all);
-    w.property_array_u64(data, strings, name, &all[..n])
-}
-
-// The calls that take a property's name.
+// The calls that take a property's name. Of numbers, the value spells up to three.
+// A match on the letters: an enum of the calls would be this match, and one more that makes the calls.
 fn property(
     q: Asked,
     w: FdtWriter,
     data: &mut [u8],
     strings: &mut [u8],
-    name: &[u8],
-    val: &[u8],
-) -> Written {
-    let op = q.op;
-    match op {
-        b'p' => {
-            return w.property(data, strings, name, val);
-        }
-        b'z' => {
-            return w.property_null(data, strings, name);
-        }
-        b't' => {
-            return w.property_string(data, strings, name, val);
-        }
-        b'k' => {
-            return w.property_string_list(data, strings, name, val);
-        }
-        b'w' => {
-            return w.property_u32(data, strings, name, word(q.a));
-        }
-        b'q' => {
-            return w.property_u64(data, strings, name, q.a);
-        }
+) -> Result<FdtWriter, Refused> {
+    let val = q.val;
+    match q.op {
+        b'p' => w.property(data, strings, q.name, val),
+        b'z' => w.property_null(data, strings, q.name),
+        b't' => w.property_string(data, strings, q.name, val),
+        b'k' => w.property_string_list(data, strings, q.name, val),
+        b'w' => w.property_u32(data, strings, q.name, word(q.a)),
+        b'q' => w.property_u64(data, strings, q.name, q.a),
         b'c' => {
-            return cells(w, data, strings, name, val);
+            let three: [u32; 3] = array::from_fn(|i| octets::word(val, i * 4));
+            w.property_array_u32(data, strings, q.name, first(val.len() / 4, &three))
         }
         _ => {
-            return doubles(w, data, strings, name, val);
+            let three: [u64; 3] = array::from_fn(|i| octets::long(val, i * 8));
+            w.property_array_u64(data, strings, q.name, first(val.len() / 8, &three))
         }
     }
 }
 
-// The other calls.
+// The other calls, by their letters as above.
 fn call(
     q: Asked,
     w: FdtWriter,
     data: &mut [u8],
     strings: &mut [u8],
     phandles: &mut [u32],
-    name: &[u8],
-    val: &[u8],
-) -> Written {
-    let op = q.op;
-    match op {
-        b'0' => {
-            return FdtWriter::new(data);
-        }
-        b's' => {
-            return start(data, q.a as usize, val);
-        }
-        b'b' => {
-            return w.begin_node(data, name);
-        }
-        b'e' => {
-            return w.end_node(data, q.a as usize);
-        }
-        b'h' => {
-            return w.property_phandle(data, strings, phandles, word(q.a));
-        }
-        b'f' => {
-            return w.finish(data, strings);
-        }
-        b'i' => {
-            return Written::Done(w.set_boot_cpuid_phys(word(q.a)));
-        }
-        b'a' => {
-            return Written::Done(altered(w, q.a, q.b as usize));
-        }
-        _ => {
-            return property(q, w, data, strings, name, val);
-        }
-    }
-}
-
-// Makes a call and tells of it.
-fn called<O: Write>(
-    out: &mut O,
-    q: Asked,
-    w: FdtWriter,
-    data: &mut [u8],
-    strings: &mut [u8],
-    phandles: &mut [u32],
-    name: &[u8],
-    val: &[u8],
-) -> io::Result<FdtWriter> {
-    let answer = call(q, w, data, strings, phandles, name, val);
-    tell::told(out, answer, data, strings, phandles)
-}
-
-// A state of nothing, finished.
-fn nothing() -> FdtWriter {
-    FdtWriter {
-        data_len: 0,
-        off_dt_struct: 0,
-        strings_len: 0,
-        phandles_len: 0,
-        node_depth: 0,
-        node_ended: false,
-        finished: true,
-        boot_cpuid_phys: 0,
+) -> Result<FdtWriter, Refused> {
+    match q.op {
+        b'0' => FdtWriter::new(data),
+        b's' => start(data, q.a as usize, q.val),
+        b'b' => w.begin_node(data, q.name),
+        b'e' => w.end_node(data, q.a as usize),
+        b'h' => w.property_phandle(data, strings, phandles, word(q.a)),
+        b'f' => w.finish(data, strings),
+        b'i' => Ok(w.set_boot_cpuid_phys(word(q.a))),
+        b'a' => Ok(scripts::altered(w, q.a, q.b as usize)),
+        _ => property(q, w, data, strings),
     }
 }
 
@@ -274,22 +150,23 @@ fn refers<O: Write>(out: &mut O, name: &[u8], cells: &[u8]) -> io::Result<()> {
 
 fn made<O: Write>(out: &mut O, address: u64, size: u64) -> io::Result<()> {
     match Reservation::new(address, size) {
-        Made::Reserved(r) => tell::made(out, 0, r.address(), r.size()),
-        Made::InvalidMemoryReservation => tell::made(out, 0x27, 0, 0),
+        Ok(r) => tell::made(out, 0, r.address(), r.size()),
+        Err(_) => tell::made(out, 0x27, 0, 0),
     }
 }
 
 // Lends anew.
 fn lend(q: Asked, phandles: usize) -> Session {
     Session {
-        w: nothing(),
+        w: scripts::nothing(),
         data: q.a as usize,
         strings: q.b as usize,
         phandles,
     }
 }
 
-// A call of the writer on what is lent.
+// Makes a call of the writer on what is lent, and tells of it. The three buffers stay parameters of their own: the borrow checker
+// has no rule yet for calls that take them out of a struct behind a reference.
 fn on<O: Write>(
     out: &mut O,
     q: Asked,
@@ -297,26 +174,19 @@ fn on<O: Write>(
     data: &mut [u8],
     strings: &mut [u8],
     phandles: &mut [u32],
-    name: &[u8],
-    val: &[u8],
 ) -> io::Result<Session> {
-    let w = s.w;
     let d = within(s.data, data);
     let t = within(s.strings, strings);
-    let p = within_words(s.phandles, phandles);
-    let after = called(
-        out,
-        q,
-        w,
-        &mut data[..d],
-        &mut strings[..t],
-        &mut phandles[..p],
-        name,
-        val,
-    )?;
+    let p = within(s.phandles, phandles);
+    let data = &mut data[..d];
+    let strings = &mut strings[..t];
+    let phandles = &mut phandles[..p];
+    let answer = call(q, s.w, data, strings, phandles);
+    let after = tell::told(out, answer, data, strings, phandles)?;
     Ok(s.with(after))
 }
 
+// Answers a question, by its letter as above.
 fn answer<O: Write>(
     out: &mut O,
     q: Asked,
@@ -324,13 +194,10 @@ fn answer<O: Write>(
     data: &mut [u8],
     strings: &mut [u8],
     phandles: &mut [u32],
-    name: &[u8],
-    val: &[u8],
 ) -> io::Result<Session> {
-    let op = q.op;
-    match op {
+    match q.op {
         b'n' => {
-            judged(out, name)?;
+            judged(out, q.name)?;
             Ok(s)
         }
         b'm' => {
@@ -338,16 +205,16 @@ fn answer<O: Write>(
             Ok(s)
         }
         b'r' => {
-            refers(out, name, val)?;
+            refers(out, q.name, q.val)?;
             Ok(s)
         }
         b'l' => {
             cases::fill(data, FILL);
             cases::fill(strings, FILL);
-            cases::fill_words(phandles, FILL_WORD);
-            Ok(lend(q, octets::word(val, 0) as usize))
+            cases::fill(phandles, FILL_WORD);
+            Ok(lend(q, octets::word(q.val, 0) as usize))
         }
-        _ => on(out, q, s, data, strings, phandles, name, val),
+        _ => on(out, q, s, data, strings, phandles),
     }
 }
 
@@ -358,23 +225,19 @@ fn take<R: Read>(input: &mut R, raw: &mut [u8], n: usize) -> io::Result<()> {
     Ok(())
 }
 
-// The first bytes of a text.
-fn text(s: &[u8; TEXT], n: usize) -> &[u8] {
-    octets::part(s, 0, n)
-}
-
-// The bytes that n characters of the second line spell, from a place on, in `out`; answers how many.
-fn spelt(raw: &[u8; RAW], at: usize, n: usize, out: &mut [u8; TEXT]) -> usize {
-    unhex(octets::part(raw, at, n), out)
+// The bytes that n characters of the second line spell, from a place on, put into `out`.
+fn spelt<'a>(raw: &[u8; RAW], at: usize, n: usize, out: &'a mut [u8; TEXT]) -> &'a [u8] {
+    let k = unhex(octets::part(raw, at, n), out);
+    octets::part(out, 0, k)
 }
 
 // The second line of a question: its name and its value. Its last character, the line's end, is of neither.
-fn behind<R: Read>(
+fn behind<'a, R: Read>(
     input: &mut R,
     head: &[u8; HEAD],
-    name: &mut [u8; TEXT],
-    val: &mut [u8; TEXT],
-) -> io::Result<Asked> {
+    name: &'a mut [u8; TEXT],
+    val: &'a mut [u8; TEXT],
+) -> io::Result<Asked<'a>> {
     let n = count(head, 36) as usize;
     let m = count(head, 41) as usize;
     let mut raw = [0u8; RAW];
@@ -393,31 +256,25 @@ fn count(head: &[u8; HEAD], at: usize) -> u16 {
     (number(octets::part(head, at, 4)) % 65536) as u16
 }
 
-// No question: there is none left.
-fn over() -> Asked {
-    Asked {
-        op: 0,
-        a: 0,
-        b: 0,
-        name: 0,
-        val: 0,
-    }
-}
-
-fn question<R: Read>(
+// The next question; None where there is none left, or a NUL stands for its letter.
+fn question<'a, R: Read>(
     input: &mut R,
-    name: &mut [u8; TEXT],
-    val: &mut [u8; TEXT],
-) -> io::Result<Asked> {
+    name: &'a mut [u8; TEXT],
+    val: &'a mut [u8; TEXT],
+) -> io::Result<Option<Asked<'a>>> {
     let mut head = [0u8; HEAD];
     let got = read_full(input, &mut head)?;
     if got < HEAD {
-        return Ok(over());
+        return Ok(None);
     }
-    behind(input, &head, name, val)
+    let asked = behind(input, &head, name, val)?;
+    if asked.op == 0 {
+        return Ok(None);
+    }
+    Ok(Some(asked))
 }
 
-// One question; Over where there is none left.
+// One question; None where there is none left.
 fn next<R: Read, O: Write>(
     input: &mut R,
     out: &mut O,
@@ -425,16 +282,13 @@ fn next<R: Read, O: Write>(
     data: &mut [u8; DATA],
     strings: &mut [u8; STRINGS],
     phandles: &mut [u32; PHANDLES],
-) -> io::Result<Turn> {
+) -> io::Result<Option<Session>> {
     let mut name = [0u8; TEXT];
     let mut val = [0u8; TEXT];
-    let q = question(input, &mut name, &mut val)?;
-    if q.op == 0 {
-        return Ok(Turn::Over);
-    }
-    let n = text(&name, q.name);
-    let v = text(&val, q.val);
-    Ok(Turn::More(answer(out, q, s, data, strings, phandles, n, v)?))
+    let Some(q) = question(input, &mut name, &mut val)? else {
+        return Ok(None);
+    };
+    Ok(Some(answer(out, q, s, data, strings, phandles)?))
 }
 
 fn main(rt: HostRuntime) -> io::Result<()> {
@@ -442,7 +296,7 @@ fn main(rt: HostRuntime) -> io::Result<()> {
     let mut strings = [0u8; STRINGS];
     let mut phandles = [0u32; PHANDLES];
     let mut s = Session {
-        w: nothing(),
+        w: scripts::nothing(),
         data: 0,
         strings: 0,
         phandles: 0,
@@ -458,12 +312,8 @@ fn main(rt: HostRuntime) -> io::Result<()> {
             &mut strings,
             &mut phandles,
         )? {
-            Turn::More(kept) => {
-                s = kept;
-            }
-            Turn::Over => {
-                return Ok(());
-            }
+            Some(kept) => s = kept,
+            None => return Ok(()),
         }
     }
     Ok(())

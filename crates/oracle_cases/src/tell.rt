@@ -1,19 +1,16 @@
 // What is told of a question: a line of hexadecimal numbers, each as wide as its place is.
 use cases::{digest, digest_words};
+use scripts::parts;
 use std::io;
 use std::io::{Cursor, Write};
 use streams::print_hex;
-use writer::{FdtWriter, Written};
+use writer::{FdtWriter, Refused};
 
 const LINE: usize = 140;
 
 // A number below 100 as two digits that read as decimal ones.
 fn decimal(n: u64) -> u64 {
     n % 100 / 10 * 16 + n % 10
-}
-
-fn flag(b: bool) -> u64 {
-    if b { 1 } else { 0 }
 }
 
 fn digits(text: &[u8; 16], n: usize) -> &[u8] {
@@ -25,7 +22,7 @@ fn put(line: &mut [u8; LINE], at: usize, n: u64, width: usize) {
     let mut text = Cursor::new([0u8; 16]);
     let _ = print_hex(&mut text, n, width);
     let k = text.position() as usize;
-    octets::put_bytes(line, at, digits(&text.into_inner(), k));
+    octets::put(line, at, digits(&text.into_inner(), k));
 }
 
 fn state(line: &mut [u8; LINE], w: FdtWriter) {
@@ -34,8 +31,8 @@ fn state(line: &mut [u8; LINE], w: FdtWriter) {
     put(line, 37, w.strings_len as u64, 16);
     put(line, 54, w.phandles_len as u64, 16);
     put(line, 71, w.node_depth as u64, 16);
-    put(line, 88, flag(w.node_ended), 1);
-    put(line, 90, flag(w.finished), 1);
+    put(line, 88, u64::from(w.node_ended), 1);
+    put(line, 90, u64::from(w.finished), 1);
     put(line, 92, w.boot_cpuid_phys as u64, 8);
 }
 
@@ -50,27 +47,19 @@ fn blank() -> [u8; LINE] {
     line
 }
 
-// The state that an answer hands back, and its refusal or 0.
-fn parts(answer: Written) -> (FdtWriter, u64) {
-    match answer {
-        Written::Done(w) => (w, 0),
-        Written::Refused(w, e) => (w, decimal(judge::number(e))),
-    }
-}
-
 // Writes the line of a call: its refusal or 00, the state that it hands back (lengths of data, structure's offset, strings and
 // phandle table, the depth, whether a node was ended, whether it is finished, the boot CPU), and digests of data, strings and
 // phandle table. Hands back the state.
 pub(crate) fn told<O: Write>(
     out: &mut O,
-    answer: Written,
+    answer: Result<FdtWriter, Refused>,
     data: &[u8],
     strings: &[u8],
     phandles: &[u32],
 ) -> io::Result<FdtWriter> {
     let (w, refusal) = parts(answer);
     let mut line = blank();
-    put(&mut line, 0, refusal, 2);
+    put(&mut line, 0, decimal(refusal), 2);
     state(&mut line, w);
     put(&mut line, 101, digest(data) as u64, 8);
     put(&mut line, 110, digest(strings) as u64, 8);
@@ -88,18 +77,18 @@ pub(crate) fn name<O: Write>(
     property_reads: bool,
 ) -> io::Result<()> {
     let mut line = [b'\n'; LINE];
-    put(&mut line, 0, flag(node), 1);
-    put(&mut line, 1, flag(property), 1);
-    put(&mut line, 2, flag(node_reads), 1);
-    put(&mut line, 3, flag(property_reads), 1);
+    put(&mut line, 0, u64::from(node), 1);
+    put(&mut line, 1, u64::from(property), 1);
+    put(&mut line, 2, u64::from(node_reads), 1);
+    put(&mut line, 3, u64::from(property_reads), 1);
     show(out, &line, 5)
 }
 
 // Writes a digit for each.
 pub(crate) fn refers<O: Write>(out: &mut O, reference: bool, cells: bool) -> io::Result<()> {
     let mut line = [b'\n'; LINE];
-    put(&mut line, 0, flag(reference), 1);
-    put(&mut line, 1, flag(cells), 1);
+    put(&mut line, 0, u64::from(reference), 1);
+    put(&mut line, 1, u64::from(cells), 1);
     show(out, &line, 3)
 }
 

@@ -1,26 +1,25 @@
 -- Nodes in the words of the work space: how they are searched, and how one more is put among them.
-use mathlib.Core.Path.{◌≡◌, sym, ap, ap₂, ◌∙◌}
-use mathlib.Core.Bool.{Bool, true, false}
-use mathlib.Core.List.{List, [], ◌∷◌, ◌++◌}
+use mathlib.Core.Path.{◌≡◌, refl, sym, ap, ap₂, ◌∙◌}
+use mathlib.Core.Bool.{Bool, true, false, ◌&&◌}
+use mathlib.Core.List.{List, [], ◌∷◌, ◌++◌, append_assoc}
 use Prim.Native.Nat.{ℕ, zero, suc, ◌+◌, ◌-◌, ◌≤◌, ◌<◌}
 use native.Mathlib.Numerals.{add-one}
 use native.Mathlib.Omega.{arith}
-use lib.Dec.{eqb}
+use lib.Dec.{eqb, ltb}
 use lib.ListN.{length, get_or, set, take, drop, take-append-drop, length-drop}
-use lib.Seq.{drop-cons, take_at, drop_at, drop-drop, drop-append-le, length-take-le}
-use borrow.Author.Tests.{eqb-true, eqb-false}
-use Rattle.rules.specs.Octets.{Bytes, part, put, lay, before}
+use lib.Seq.{paste, take_at, drop_at, drop-drop, drop-append-le, length-take-le}
+use borrow.Author.Tests.{eqb-true, eqb-false, lt-ltb}
+use Rattle.rules.specs.Octets.{part, put, lay, before}
 use Rattle.rules.specs.Tree.{Tree, path}
-use Rattle.rules.specs.Space.{stack_at}
-use Rattle.rules.proofs.Laws.Tests.{by_test, by_le, never, not_passed}
-use Rattle.rules.proofs.Laws.Octets.{lay_put, lay_past, lay_nil, lay_one, lay_lay, length_lay, put_inside}
+use Rattle.std.specs.List.{copy_within}
+use Rattle.std.specs.List.Sorted.{IsPartitionedBy, IsPartitionPoint}
+use Rattle.std.proofs.lemmas.List.{get_or-take, get_or-drop, get_or_default}
+use Rattle.rules.specs.Ceilings.{node_ceiling, node_words, work_words}
+use Rattle.rules.specs.Space.{table_words, marks_at, list_at, stack_at}
+use Rattle.rules.proofs.Laws.Tests.{by_test, by_le}
+use Rattle.rules.proofs.Laws.Octets.{lay_put, lay_past, lay_nil, lay_one, lay_lay, length_lay, length_part, put_inside}
 use Rattle.rules.proofs.Laws.Order.{before_trans}
-use Rattle.rules.proofs.Laws.Kept.{lay_before}
-use Rattle.rules.specs.Laws.Paths.{Formed}
-use Rattle.rules.specs.Laws.Tabled.{tree_of}
-use Rattle.rules.proofs.Laws.Tabled.{tree_length}
-use Rattle.paths.specs.Order.{Orders}
-use Rattle.order.specs.Region.{nth_node, Ordered, Between, Halves, inserted}
+use Rattle.order.specs.Region.{nth_node, Ordered, Between, inserted}
 
 -- ---- words laid over and in front of others
 
@@ -57,48 +56,32 @@ lay_front d a b x ys e = by_le (length d) a
     ∙ ap₂ (λ (l : List ℕ) (c : ℕ). lay l c ys) (sym (lay_one d a x h)) (sym (add-one a))
     ∙ lay_lay d a (x ∷ []) ys)
 
+-- ---- room
+
+pub room : stack_at + node_ceiling < work_words
+unfolding stack_at list_at marks_at table_words node_ceiling node_words work_words
+room = omega arith
+
 -- ---- words that move up
 
--- those from i to n have moved up by one
-unfoldable pub moved : List ℕ → (n i : ℕ) → List ℕ
-moved ws n i = lay ws (stack_at + (i + 1)) (part ws (stack_at + i) (n - i))
+lay_paste : (d : List ℕ) (at : ℕ) (s : List ℕ) (n : ℕ) → at + n ≤ length d → n ≤ length s → paste d at s n ≡ lay d at (take n s)
+unfolding put
+lay_paste d at s n h l =
+    let e : length (take n s) ≡ n = length-take-le n s l in
+    append_assoc (take at d) (take n s) (drop (at + n) d)
+    ∙ ap (λ (k : ℕ). take at d ++ (take n s ++ drop (at + k) d)) (sym e)
+    ∙ sym (lay_put d at (take n s) (omega arith))
 
-pub moved_start : (ws : List ℕ) (n : ℕ) → ws ≡ moved ws n n
-unfolding moved
-moved_start ws n = let e : n - n ≡ 0 = omega arith in rw e (sym (lay_nil ws (stack_at + (n + 1))))
-
-module _ (ws : List ℕ) (n i : ℕ) (vs : List ℕ) (e : vs ≡ moved ws n i) where
-  module _ (z : 0 < i) (l : i ≤ n) where
-    k : ℕ
-    k = i - 1
-
-    -- the one that is moved is as it was
-    same_word : nth_node vs k ≡ get_or ws (stack_at + k) 0
-    unfolding moved k
-    same_word = rw e (lay_before ws (stack_at + (i + 1)) (part ws (stack_at + i) (n - i)) 0 (stack_at + k) (omega arith))
-
-    longer : stack_at + k < length ws → get_or ws (stack_at + k) 0 ∷ part ws (stack_at + i) (n - i) ≡ part ws (stack_at + k) (n - k)
-    unfolding k
-    longer h =
-        let p : n - k ≡ suc (n - i) = omega arith in
-        let q : stack_at + i ≡ suc (stack_at + k) = omega arith in
-        rw (p, drop-cons ws (stack_at + k) 0 h, q)
-
-    pub moved_more : lay vs (stack_at + i) (nth_node vs (i - 1) ∷ []) ≡ moved ws n (i - 1)
-    unfolding moved k
-    moved_more =
-        let q : stack_at + i ≡ stack_at + (k + 1) = omega arith in
-        ap₂ (λ (l : List ℕ) (x : ℕ). lay l (stack_at + i) (x ∷ [])) e same_word
-        ∙ lay_front ws (stack_at + i) (stack_at + (i + 1)) (get_or ws (stack_at + k) 0) (part ws (stack_at + i) (n - i)) (omega arith)
-        ∙ by_le (length ws) (stack_at + k)
-        (λ h. lay_past ws (stack_at + i) _ (omega arith) ∙ sym (lay_past ws (stack_at + (k + 1)) _ (omega arith)))
-        (λ h. ap₂ (λ (a : ℕ) (l : List ℕ). lay ws a l) q (longer h))
-
-  pub moved_done : (at x : ℕ) → i ≡ at → lay vs (stack_at + at) (x ∷ []) ≡ inserted ws n at x
-  unfolding moved inserted
-  moved_done at x p =
-      ap (λ (l : List ℕ). lay l (stack_at + at) (x ∷ [])) (e ∙ ap (moved ws n) p)
-      ∙ lay_front ws (stack_at + at) (stack_at + (at + 1)) x (part ws (stack_at + at) (n - at)) (omega arith)
+pub copied : (ws : List ℕ) (n at x place : ℕ) → place ≡ stack_at + at → at ≤ n → stack_at + n < length ws → (top : ℕ) → top ≡ stack_at + n
+    → set (copy_within ws place top (place + 1)) place x ≡ inserted ws n at x
+unfolding inserted
+copied ws n at x place e h l top f =
+    let m : top - place ≡ n - at = omega arith in
+    let b : List ℕ = take (top - place) (drop place ws) in
+    ap (λ (vs : List ℕ). set vs place x) (lay_paste ws (place + 1) (drop place ws) (top - place) (omega arith) (omega (arith, length-drop place ws)))
+    ∙ sym (lay_one (lay ws (place + 1) b) place x (omega (arith, length_lay ws (place + 1) b)))
+    ∙ lay_front ws place (place + 1) x b refl
+    ∙ rw (m, e)
 
 -- ---- nodes laid into a work space
 
@@ -128,47 +111,44 @@ module _ (ws l : List ℕ) (room : stack_at + length l ≤ length ws) where
 
 -- ---- searching
 
-module _ (t : Tree) (ws : List ℕ) (n x : ℕ) (o : Ordered t ws n) where
-  abbrev first : ℕ → Bytes
-  first i = path t (nth_node ws i)
+-- whether a number is one of a node before x
+abbrev pub is_earlier : Tree → (count x y : ℕ) → Bool
+is_earlier t count x y = ltb y count && before (path t y) (path t x)
 
-  -- nothing is known yet
-  pub between_start : Between t ws n x 0 n
-  between_start = record { lower = λ i h. absurd (omega arith); upper = λ i h k. absurd (omega arith) }
+-- the nodes of the search, as they are taken out of the work space
+module _ (ws : List ℕ) (n at m : ℕ) (e : at ≡ stack_at) (q : m ≡ n) (l : stack_at + n ≤ length ws) where
+  abbrev nodes : List ℕ
+  nodes = part ws at m
 
-  module _ (low high m : ℕ) (b : Between t ws n x low high) (l : m < n) where
-    -- all up to one that comes before x do, and all from one on that does not do not
-    between_up : before (first m) (path t x) ≡ true → Between t ws n x (m + 1) high
-    between_up h =
-        record {
-          lower = λ i k. by_test (eqb i m)
-              (λ e. ap (λ (j : ℕ). before (first j) (path t x)) (eqb-true i m e) ∙ h)
-              (λ e. before_trans (first i) (first m) (path t x) (o.rising i m (let ne = eqb-false i m e in omega arith) l) h);
-          upper = b.upper;
-        }
+  pub many : length nodes ≡ n
+  many = length_part ws at m (omega arith) ∙ q
 
-    between_down : before (first m) (path t x) ≡ false → Between t ws n x low m
-    between_down h =
-        record {
-          lower = b.lower;
-          upper = λ i k j. by_test (eqb i m)
-              (λ e. ap (λ (c : ℕ). before (first c) (path t x)) (eqb-true i m e) ∙ h)
-              (λ e. not_passed (before (first i) (path t x)) (λ q. never (before (first m) (path t x)) (before_trans (first m) (first i) (path t x) (o.rising m i (let ne = eqb-false i m e in omega arith) j) q) h));
-        }
+  held : (i d : ℕ) → i < n → get_or nodes i d ≡ nth_node ws i
+  held i d h =
+      get_or-take m (drop at ws) i d (omega arith)
+      ∙ get_or-drop at ws i d
+      ∙ ap (λ (k : ℕ). get_or ws (k + i) d) e
+      ∙ get_or_default ws (stack_at + i) d 0 (omega arith)
 
--- one turn of the search: the node y in the middle is asked
-module _ (place : ℕ) (structure strings : Bytes) (ws : List ℕ) (count n x low high m y : ℕ) (r : Bool) (l : m < n)
-    (b : Halves place structure strings ws count n x low high) (e : y ≡ nth_node ws m) (a : Orders place structure strings ws count y x r) where
-  abbrev t : Tree
-  t = tree_of place structure strings ws count
+  -- those before x stand in front of the others
+  module _ (t : Tree) (count x : ℕ) (size : length t ≡ count) (o : Ordered t ws n) where
+    abbrev earlier : ℕ → Bool
+    earlier = is_earlier t count x
 
-  asked : Formed t → Ordered t ws n → x < count → r ≡ before (path t (nth_node ws m)) (path t x)
-  asked w o h =
-      a w (omega (arith, e, o.small m l, tree_length (record { place = place; structure = structure; strings = strings }) ws count 0)) h
-      ∙ ap (λ (k : ℕ). before (path t k) (path t x)) e
+    node_earlier : (i : ℕ) → i < n → earlier (nth_node ws i) ≡ before (path t (nth_node ws i)) (path t x)
+    node_earlier i h = let g : nth_node ws i < count = omega (arith, o.small i h, size) in rw (lt-ltb (nth_node ws i) count g)
 
-  pub step_up : r ≡ true → Halves place structure strings ws count n x (m + 1) high
-  step_up q w o h = between_up t ws n x o low high m (b w o h) l (sym (asked w o h) ∙ q)
+    pub parted : IsPartitionedBy earlier nodes
+    parted i j d h k r =
+        let u : j < n = omega (arith, many) in
+        let v : i < n = omega arith in
+        let y : before (path t (nth_node ws j)) (path t x) ≡ true = sym (node_earlier j u) ∙ ap earlier (sym (held j d u)) ∙ r in
+        ap earlier (held i d v) ∙ node_earlier i v ∙ by_test (eqb i j)
+        (λ f. ap (λ (c : ℕ). before (path t (nth_node ws c)) (path t x)) (eqb-true i j f) ∙ y)
+        (λ f. before_trans (path t (nth_node ws i)) (path t (nth_node ws j)) (path t x) (o.rising i j (let ne = eqb-false i j f in omega arith) u) y)
 
-  pub step_down : r ≡ false → Halves place structure strings ws count n x low m
-  step_down q w o h = between_down t ws n x o low high m (b w o h) l (sym (asked w o h) ∙ q)
+    pub between : (r : ℕ) → r ≤ n → IsPartitionPoint (λ (y : ℕ). earlier y ≡ true) (λ (y : ℕ). earlier y ≡ false) nodes r → Between t ws n x r r
+    between r h p = record {
+      lower = λ i k. sym (node_earlier i (omega arith)) ∙ ap earlier (sym (held i 0 (omega arith))) ∙ p.0 i 0 (omega arith) k;
+      upper = λ i k j. sym (node_earlier i j) ∙ ap earlier (sym (held i 0 j)) ∙ p.1 i 0 k (omega (arith, many));
+    }

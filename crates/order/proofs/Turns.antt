@@ -7,7 +7,6 @@ use native.Mathlib.Nat.{sub-zero}
 use native.Mathlib.Numerals.{add-one}
 use native.Mathlib.Omega.{arith}
 use lib.ListN.{length, get_or, take, drop}
-use Rattle.rules.specs.Ceilings.{node_ceiling, work_words}
 use Rattle.rules.specs.Octets.{lay}
 use Rattle.rules.specs.Lists.{keep, insert, sort}
 use Rattle.rules.specs.Blob.{Block}
@@ -21,10 +20,10 @@ use Rattle.rules.proofs.Laws.Starts.{sorted_ascending, starts_within}
 use Rattle.rules.specs.Laws.Tabled.{tree_in}
 use Rattle.rules.proofs.Laws.Tabled.{tree_length}
 use Rattle.rules.proofs.Laws.Octets.{lay_nil}
-use Rattle.rules.proofs.Laws.Kept.{tree_alike, lay_alike, marks_behind, list_behind, stack_behind, names_behind, names_inside}
+use Rattle.rules.proofs.Laws.Kept.{tree_alike, lay_alike, marks_behind, list_behind, stack_behind}
 use Rattle.order.specs.Region.{nth_node, Ordered, Between, inserted}
 use Rattle.order.specs.Starts.{Asked, starts_from, Placed, Started}
-use Rattle.order.proofs.Regions.{laid_at, laid_insert}
+use Rattle.order.proofs.Regions.{room, laid_at, laid_insert}
 
 -- ---- the start nodes of number i or more
 
@@ -50,9 +49,6 @@ module _ (t : Tree) (conf : List ℕ) (count : ℕ) where
 
 pub table_behind : table_words ≤ stack_at
 table_behind = omega (arith, marks_behind, list_behind, stack_behind)
-
-pub stack_room : stack_at + node_ceiling ≤ work_words
-stack_room = omega (arith, names_behind, names_inside)
 
 module _ (b : Block) (ws : List ℕ) (count : ℕ) (conf : List ℕ) (a : Asked b ws count conf) where
   abbrev t : Tree
@@ -91,8 +87,8 @@ module _ (b : Block) (ws : List ℕ) (count : ℕ) (conf : List ℕ) (a : Asked 
     pub formed_kept : Formed (tree_in b vs count)
     formed_kept = rw tree_kept a.kept.formed
 
-    room : stack_at + length later ≤ length ws
-    room = omega (arith, p.many, m, a.kept.few, a.kept.room, stack_room)
+    inside : stack_at + length later ≤ length ws
+    inside = omega (arith, p.many, m, a.kept.few, a.kept.room, room)
 
     rising : Ascending (path t) later
     unfolding starts_from
@@ -105,7 +101,7 @@ module _ (b : Block) (ws : List ℕ) (count : ℕ) (conf : List ℕ) (a : Asked 
         (keep_of (within (frame t) conf) (numbers_from (i + 1) (count - (i + 1))) x (sort_of (path t) (keep (within (frame t) conf) (numbers_from (i + 1) (count - (i + 1)))) x k)).0
 
     node_later : (k : ℕ) → k < n → nth_node vs k ≡ get_or later k 0
-    node_later k l = rw p.laid (laid_at ws later room k (omega (arith, p.many)))
+    node_later k l = rw p.laid (laid_at ws later inside k (omega (arith, p.many)))
 
     pub ordered_kept : Ordered (tree_in b vs count) vs n
     ordered_kept = rw tree_kept (record {
@@ -126,7 +122,7 @@ module _ (b : Block) (ws : List ℕ) (count : ℕ) (conf : List ℕ) (a : Asked 
           (λ l. rw (node_later at (omega (arith, p.many))) at (found-kept.upper at (omega arith) (omega (arith, p.many))))
 
       lays : inserted vs n at i ≡ lay ws stack_at (insert (path t) i later)
-      lays = rw (p.laid, p.many, inserts) (laid_insert ws later room at i (omega (arith, p.many)))
+      lays = rw (p.laid, p.many, inserts) (laid_insert ws later inside at i (omega (arith, p.many)))
 
       pub turn-take : true ≡ within (frame (tree_in b vs count)) conf i → Placed b ws count conf i (n + 1) us
       turn-take w =

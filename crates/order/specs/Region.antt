@@ -1,10 +1,9 @@
 -- Nodes in byte order of path, kept in the words of the work space from `stack_at` on.
 use Rattle.std.specs.Prelude.{◌≡◌, true, false, List, ◌∷◌, ℕ, ◌+◌, ◌-◌, ◌≤◌, ◌<◌, length, get_or}
-use Rattle.rules.specs.Octets.{Bytes, part, lay, before}
+use Rattle.rules.specs.Octets.{part, lay, before}
 use Rattle.rules.specs.Tree.{Tree, path}
 use Rattle.rules.specs.Space.{stack_at}
 use Rattle.rules.specs.Laws.Paths.{Formed}
-use Rattle.rules.specs.Laws.Tabled.{tree_of}
 
 -- the node at an index
 abbrev pub nth_node : List ℕ → ℕ → ℕ
@@ -20,11 +19,9 @@ pub record Between (t : Tree) (ws : List ℕ) (n x low high : ℕ) : Type 0 wher
   pub lower : (i : ℕ) → i < low → before (path t (nth_node ws i)) (path t x) ≡ true
   pub upper : (i : ℕ) → high ≤ i → i < n → before (path t (nth_node ws i)) (path t x) ≡ false
 
--- the same, of the tree of a table
-abbrev pub Halves : (place : ℕ) (structure strings : Bytes) (words : List ℕ) (count n x low high : ℕ) → Type 0
-Halves place structure strings ws count n x low high =
-    Formed (tree_of place structure strings ws count) → Ordered (tree_of place structure strings ws count) ws n → x < count
-    → Between (tree_of place structure strings ws count) ws n x low high
+-- in a formed tree, where the nodes are in order: `at` of them come before x
+abbrev pub Halves : Tree → (words : List ℕ) (count n x at : ℕ) → Type 0
+Halves t ws count n x at = Formed t → Ordered t ws n → x < count → Between t ws n x at at
 
 -- x is put at an index, and those from there up to the n-th move up by one
 unfoldable pub inserted : List ℕ → (n at x : ℕ) → List ℕ

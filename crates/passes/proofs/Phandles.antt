@@ -1,15 +1,10 @@
 -- Refusal 12 as a walk over events.
-use mathlib.Core.Path.{◌≡◌, refl, sym, ap, ◌∙◌, subst}
+use mathlib.Core.Path.{◌≡◌, refl, sym, ap, ap₂, ◌∙◌, subst}
 use mathlib.Core.Bool.{Bool, true, false, ◌||◌}
 use mathlib.Core.List.{List, [], ◌∷◌}
-use Prim.Native.Nat.{ℕ, zero, suc, ◌+◌, ◌≤◌, ◌<◌}
+use Prim.Native.Nat.{ℕ, zero, suc, ◌+◌, ◌≤◌}
 use native.Mathlib.Omega.{arith}
-use native.Mathlib.Numerals.{add-one}
-use lib.Dec.{eqb}
 use lib.ListN.{length}
-use types.Run.{OneOf}
-use denote.Enum.Declared.{tag_of}
-use borrow.Author.Tests.{eqb-true, eqb-false}
 use Rattle.rules.specs.Octets.{Bytes, word_at, part}
 use Rattle.rules.specs.Outcome.{Verdict, refuses, passes}
 use Rattle.rules.specs.Blob.{Block, block_of}
@@ -20,51 +15,39 @@ use Rattle.rules.specs.declared.Token.{Token}
 use Rattle.rules.specs.declared.Token.TheVariants.{Item}
 use Rattle.rules.specs.declared.Kind.{Kind}
 use Rattle.rules.specs.declared.Kind.TheVariants.{Begin, EndNode, Prop, Nop}
-use Rattle.rules.specs.contracts.Token as tokened
 use Rattle.rules.proofs.Laws.Tests.{by_test}
-use Rattle.passes.specs.declared.shared.Row.{Row}
-use Rattle.passes.specs.declared.shared.Row.TheVariants.{Go, Fault}
-use Rattle.passes.specs.Rows.{row_has, row_below, row_given, rows_from, passed, row_give, row_prop, row_turn}
+use Rattle.passes.specs.declared.shared.Search.{Search}
+use Rattle.std.specs.Prelude.{Option, Some, None}
+use Rattle.passes.specs.Rows.{row_has, row_below, row_given, rows_from, next_number, passed, row_give, row_prop, row_turn}
 use Rattle.rules.specs.Laws.Events.{events_at}
 use Rattle.doubled.specs.Passes.{nodes_in}
+use Rattle.doubled.proofs.Ranges.{any_more}
+use Rattle.std.specs.List.{list_any, range_with_len}
 use Rattle.doubled.proofs.Turns.{events_all, events_item, events_stop}
 use Rattle.rules.proofs.Laws.Passes.{phandle_here, phandle_past}
 
--- ---- a search that counts up
+-- ---- a search over the rows
 
-or_true : (b : Bool) → (b || true) ≡ true
-or_true true = refl
-or_true false = refl
-
-module _ (w : List ℕ) (v : ℕ) where
-  pub below_none : row_below w 0 v ≡ false
-  unfolding row_below
-  below_none = refl
-
-  pub below_more : (n : ℕ) → row_below w n v ≡ false → row_has w n v ≡ false → row_below w (n + 1) v ≡ false
-  unfolding row_below
-  below_more n h k = rw (add-one n, h, k)
-
-  pub below_hit : (n m : ℕ) → n < m → row_has w n v ≡ true → row_below w m v ≡ true
-  unfolding row_below
-  below_hit n zero h k = absurd (let z : ⊥ = omega arith in z)
-  below_hit n (suc m) h k = by_test (eqb n m)
-      (λ e. ap (λ (x : ℕ). row_below w m v || row_has w x v) (sym (eqb-true n m e)) ∙ rw k (or_true (row_below w m v)))
-      (λ e. rw (below_hit n m (let ne = eqb-false n m e in omega arith) k))
+pub below_any : (w : List ℕ) (v n : ℕ) → list_any (λ j. row_has w j v) (range_with_len 0 n) ≡ row_below w n v
+unfolding row_below
+below_any w v zero = refl
+below_any w v (suc n) =
+    any_more (λ j. row_has w j v) 0 n ∙ ap₂ (λ (p q : Bool). p || q) (below_any w v n) (ap (λ (j : ℕ). row_has w j v) (let e : 0 + n ≡ n = omega arith in e))
 
 -- ---- events
 
-abbrev stepped : (place : ℕ) → (Bool → ℕ → List ℕ → Verdict × List ℕ) → Row → List ℕ → Verdict × List ℕ
-stepped place go (Go i wants) w = go wants i w
-stepped place go Fault w = (refuses 12 place, w)
+abbrev stepped : (place : ℕ) → (Bool → ℕ → List ℕ → Verdict × List ℕ) → Option Search → List ℕ → Verdict × List ℕ
+stepped place go (Some search) w = go search.wants search.number w
+stepped place go None w = (refuses 12 place, w)
 
 unfoldable pub rows_rest : (wants : Bool) (i : ℕ) → List ℕ → List Event → Verdict × List ℕ
 rows_rest wants i w [] = (passes, w)
-rows_rest wants i w (opens place name ∷ es) = rows_rest true (passed i wants) w es
+rows_rest wants i w (opens place name ∷ es) = rows_rest true (next_number i wants) w es
 rows_rest wants i w (has p ∷ es) =
     stepped p.place (λ (o : Bool) (j : ℕ) (x : List ℕ). rows_rest o j x es)
-    (row_prop wants (is_phandle p.name) i (word_at p.value 0) w).0 (row_prop wants (is_phandle p.name) i (word_at p.value 0) w).1
-rows_rest wants i w (closes place ∷ es) = rows_rest false (passed i wants) w es
+    (row_prop wants (is_phandle p.name) (record { number = i; wants = wants }) (word_at p.value 0) w).0
+    (row_prop wants (is_phandle p.name) (record { number = i; wants = wants }) (word_at p.value 0) w).1
+rows_rest wants i w (closes place ∷ es) = rows_rest false (next_number i wants) w es
 
 -- what is left of the nodes, the one in which a phandle is looked for first
 abbrev left : Bool → List Property → List Node → List Node
@@ -127,15 +110,15 @@ rows_nodes true i w stack next (has p ∷ es) =
 
 -- ---- one token
 
-pub row_said : (b : Block) (wants : Bool) (i : ℕ) (w : List ℕ) (at : ℕ) (kind : Kind) (next : ℕ) (es : List Event)
-    → rows_rest wants i w (saying b at (Item kind next) es)
+pub row_said : (b : Block) (q : Search) (w : List ℕ) (at : ℕ) (kind : Kind) (next : ℕ) (es : List Event)
+    → rows_rest q.wants q.number w (saying b at (Item kind next) es)
     ≡ stepped (b.place + at) (λ (o : Bool) (j : ℕ) (x : List ℕ). rows_rest o j x es)
-    (row_turn b.structure b.strings kind wants i w).0 (row_turn b.structure b.strings kind wants i w).1
+    (row_turn b.structure b.strings kind q w).0 (row_turn b.structure b.strings kind q w).1
 unfolding rows_rest
-row_said b wants i w at (Begin len) next es = refl
-row_said b wants i w at EndNode next es = refl
-row_said b wants i w at (Prop len name value) next es = refl
-row_said b wants i w at Nop next es = refl
+row_said b q w at (Begin len) next es = refl
+row_said b q w at EndNode next es = refl
+row_said b q w at (Prop len name value) next es = refl
+row_said b q w at Nop next es = refl
 
 rows_none : (wants : Bool) (i : ℕ) (w : List ℕ) → rows_rest wants i w [] ≡ (passes, w)
 unfolding rows_rest
@@ -147,84 +130,88 @@ pub rows_start : (s strings : Bytes) (w : List ℕ) (p : ℕ) → rows_rest fals
 unfolding nodes_of
 rows_start s strings w p = ap (rows_rest false 0 w) (events_all (block_of p s strings)) ∙ rows_nodes false 0 w [] 0 (events_in (block_of p s strings))
 
-module _ (b : Block) (wants : Bool) (i : ℕ) (w : List ℕ) (at : ℕ) (h : at ≤ length b.structure) (r : Token) (e : r ≡ token_at b.structure at) where
-  pub rows_stop : OneOf (1 ∷ 2 ∷ []) (tag_of tokened.the_type r) → rows_rest wants i w (events_at b at) ≡ (passes, w)
-  rows_stop k = ap (rows_rest wants i w) (events_stop b at h r e k) ∙ rows_none wants i w
+module _ (b : Block) (q : Search) (w : List ℕ) (at : ℕ) (h : at ≤ length b.structure) (r : Token) (e : r ≡ token_at b.structure at) where
+  -- what the definition says of what is left
+  abbrev pub from_here : Verdict × List ℕ
+  from_here = rows_rest q.wants q.number w (events_at b at)
 
-  module _ (kind : Kind) (next : ℕ) (f : r ≡ Item kind next) (t : Row) (x : List ℕ) (g : (t, x) ≡ row_turn b.structure b.strings kind wants i w) where
-    abbrev go : Row → Verdict × List ℕ
-    go q = stepped (b.place + at) (λ (o : Bool) (j : ℕ) (y : List ℕ). rows_rest o j y (events_at b next)) q x
+  pub rows_stop : ((kind : Kind) (next : ℕ) → r ≡ Item kind next → ⊥) → from_here ≡ (passes, w)
+  rows_stop k = ap (rows_rest q.wants q.number w) (events_stop b at h r e k) ∙ rows_none q.wants q.number w
 
-    rows_step : rows_rest wants i w (events_at b at) ≡ go t
+  module _ (kind : Kind) (next : ℕ) (f : r ≡ Item kind next) (t : Option Search) (x : List ℕ) (g : (t, x) ≡ row_turn b.structure b.strings kind q w) where
+    abbrev go : Option Search → Verdict × List ℕ
+    go p = stepped (b.place + at) (λ (o : Bool) (j : ℕ) (y : List ℕ). rows_rest o j y (events_at b next)) p x
+
+    rows_step : from_here ≡ go t
     rows_step =
-        ap (rows_rest wants i w) (events_item b at h r e kind next f)
-        ∙ row_said b wants i w at kind next (events_at b next)
-        ∙ ap (λ (q : Row × List ℕ). stepped (b.place + at) (λ (o : Bool) (j : ℕ) (y : List ℕ). rows_rest o j y (events_at b next)) q.0 q.1) (sym g)
+        ap (rows_rest q.wants q.number w) (events_item b at h r e kind next f)
+        ∙ row_said b q w at kind next (events_at b next)
+        ∙ ap (λ (p : Option Search × List ℕ). stepped (b.place + at) (λ (o : Bool) (j : ℕ) (y : List ℕ). rows_rest o j y (events_at b next)) p.0 p.1) (sym g)
 
-    pub rows_fault : t ≡ Fault → rows_rest wants i w (events_at b at) ≡ (refuses 12 (b.place + at), x)
+    pub rows_fault : t ≡ None → from_here ≡ (refuses 12 (b.place + at), x)
     rows_fault k = rows_step ∙ ap go k
 
-    pub rows_go : (j : ℕ) (o : Bool) → t ≡ Go j o → rows_rest o j x (events_at b next) ≡ rows_rest wants i w (events_at b at)
-    rows_go j o k = sym (rows_step ∙ ap go k)
+    pub rows_go : (p : Search) → t ≡ Some p → rows_rest p.wants p.number x (events_at b next) ≡ from_here
+    rows_go p k = sym (rows_step ∙ ap go k)
 
 -- ---- the arms of a turn
 
-module _ (s strings : Bytes) (kind : Kind) (wants : Bool) (i : ℕ) (w : List ℕ) where
-  abbrev turn : Row × List ℕ
-  turn = row_turn s strings kind wants i w
+module _ (s strings : Bytes) (kind : Kind) (q : Search) (w : List ℕ) where
+  abbrev turn : Option Search × List ℕ
+  turn = row_turn s strings kind q w
 
-  pub turn_begin : (len j : ℕ) → kind ≡ Begin len → j ≡ passed i wants → (Go j true, w) ≡ turn
+  pub turn_begin : (len j : ℕ) → kind ≡ Begin len → j ≡ passed q → (Some (record { number = j; wants = true }), w) ≡ turn
   turn_begin len j e f = rw (e, f)
 
-  pub turn_end : (j : ℕ) → kind ≡ EndNode → j ≡ passed i wants → (Go j false, w) ≡ turn
+  pub turn_end : (j : ℕ) → kind ≡ EndNode → j ≡ passed q → (Some (record { number = j; wants = false }), w) ≡ turn
   turn_end j e f = rw (e, f)
 
-  pub turn_nop : kind ≡ Nop → (Go i wants, w) ≡ turn
+  pub turn_nop : kind ≡ Nop → (Some q, w) ≡ turn
   turn_nop e = rw e
 
   module _ (len name value : ℕ) (e : kind ≡ Prop len name value) where
-    pub turn_shut : wants ≡ false → (Go i false, w) ≡ turn
+    pub turn_shut : q.wants ≡ false → (Some q, w) ≡ turn
     turn_shut f = rw (e, f)
 
-    module _ (f : wants ≡ true) (n : Bytes) (g : n ≡ string_at strings name) where
-      pub turn-other : is_phandle n ≡ false → (Go i true, w) ≡ turn
+    module _ (f : q.wants ≡ true) (n : Bytes) (g : n ≡ string_at strings name) where
+      pub turn-other : is_phandle n ≡ false → (Some q, w) ≡ turn
       turn-other h = let k : is_phandle (string_at strings name) ≡ false = ap is_phandle (sym g) ∙ h in rw (e, f, k)
 
-      pub turn-give : (v : ℕ) (r : Row) (x : List ℕ) → is_phandle n ≡ true → v ≡ word_at (part s value len) 0 → (r, x) ≡ row_give w i v → (r, x) ≡ turn
+      pub turn-give : (v : ℕ) (r : Option Search) (x : List ℕ) → is_phandle n ≡ true → v ≡ word_at (part s value len) 0 → (r, x) ≡ row_give w q.number v → (r, x) ≡ turn
       turn-give v r x h l m =
           let k : is_phandle (string_at strings name) ≡ true = ap is_phandle (sym g) ∙ h in
-          m ∙ ap (row_give w i) l ∙ sym (rw (e, f, k))
+          m ∙ ap (row_give w q.number) l ∙ sym (rw (e, f, k))
 
 -- ---- the number of the next node grows by one at most
 
-abbrev Numbered : ℕ → Row → Type 0
-Numbered i (Go j o) = j ≤ i + 1
-Numbered i Fault = Unit {0}
+abbrev Numbered : ℕ → Option Search → Type 0
+Numbered i (Some q) = q.number ≤ i + 1
+Numbered i None = Unit {0}
 
-give_fault : (w : List ℕ) (i v : ℕ) → row_below w i v ≡ true → row_give w i v ≡ (Fault, w)
+give_fault : (w : List ℕ) (i v : ℕ) → row_below w i v ≡ true → row_give w i v ≡ (None, w)
 unfolding row_give
 give_fault w i v e = rw (row_give, e)
 
-give_go : (w : List ℕ) (i v : ℕ) → row_below w i v ≡ false → row_give w i v ≡ (Go (suc i) false, row_given w i v)
+give_go : (w : List ℕ) (i v : ℕ) → row_below w i v ≡ false → row_give w i v ≡ (Some (record { number = suc i; wants = false }), row_given w i v)
 unfolding row_give
 give_go w i v e = rw (row_give, e)
 
-number_prop : (wants c : Bool) (i v : ℕ) (w : List ℕ) → Numbered i (row_prop wants c i v w).0
-number_prop false c i v w = omega arith
-number_prop true false i v w = omega arith
-number_prop true true i v w = by_test (row_below w i v) (λ e. rw (give_fault w i v e) tt) (λ e. rw (give_go w i v e) (omega arith))
+number_prop : (wants c : Bool) (q : Search) (v : ℕ) (w : List ℕ) → Numbered q.number (row_prop wants c q v w).0
+number_prop false c q v w = omega arith
+number_prop true false q v w = omega arith
+number_prop true true q v w = by_test (row_below w q.number v) (λ e. rw (give_fault w q.number v e) tt) (λ e. rw (give_go w q.number v e) (omega arith))
 
-number_passed : (i : ℕ) (wants : Bool) → passed i wants ≤ i + 1
+number_passed : (i : ℕ) (wants : Bool) → next_number i wants ≤ i + 1
 number_passed i true = omega arith
 number_passed i false = omega arith
 
-number_turn : (s strings : Bytes) (kind : Kind) (wants : Bool) (i : ℕ) (w : List ℕ) → Numbered i (row_turn s strings kind wants i w).0
-number_turn s strings (Begin len) wants i w = number_passed i wants
-number_turn s strings EndNode wants i w = number_passed i wants
-number_turn s strings (Prop len name value) wants i w = number_prop wants (is_phandle (string_at strings name)) i (word_at (part s value len) 0) w
-number_turn s strings Nop wants i w = omega arith
+number_turn : (s strings : Bytes) (kind : Kind) (q : Search) (w : List ℕ) → Numbered q.number (row_turn s strings kind q w).0
+number_turn s strings (Begin len) q w = number_passed q.number q.wants
+number_turn s strings EndNode q w = number_passed q.number q.wants
+number_turn s strings (Prop len name value) q w = number_prop q.wants (is_phandle (string_at strings name)) q (word_at (part s value len) 0) w
+number_turn s strings Nop q w = omega arith
 
-pub turn_number : (s strings : Bytes) (kind : Kind) (wants : Bool) (i : ℕ) (w : List ℕ) (r : Row) (x : List ℕ) (j : ℕ) (o : Bool)
-    → (r, x) ≡ row_turn s strings kind wants i w → r ≡ Go j o → j ≤ i + 1
-turn_number s strings kind wants i w r x j o e f =
-    subst (Numbered i) (sym (ap (λ (q : Row × List ℕ). q.0) e) ∙ f) (number_turn s strings kind wants i w)
+pub turn_number : (s strings : Bytes) (kind : Kind) (q : Search) (w : List ℕ) (r : Option Search) (x : List ℕ) (p : Search)
+    → (r, x) ≡ row_turn s strings kind q w → r ≡ Some p → p.number ≤ q.number + 1
+turn_number s strings kind q w r x p e f =
+    subst (Numbered q.number) (sym (ap (λ (y : Option Search × List ℕ). y.0) e) ∙ f) (number_turn s strings kind q w)

@@ -1,13 +1,16 @@
 -- Refusal 11 as a walk over events, and the names that it reads.
-use Rattle.std.specs.Prelude.{if◌then◌else◌}
-use mathlib.Core.Path.{◌≡◌, refl, sym, ap, ◌∙◌}
+use Rattle.std.specs.Prelude.{if◌then◌else◌, Option as Answer, Some, None}
+use mathlib.Core.Path.{◌≡◌, refl, sym, ap, ap₂, ◌∙◌}
 use mathlib.Core.Bool.{Bool, true, false, not, ◌&&◌, ◌||◌}
 use mathlib.Core.List.{List, [], ◌∷◌}
 use mathlib.Core.Option.{Option, none, some}
 use Prim.Native.Nat.{ℕ, suc, ◌+◌, ◌≤◌}
 use Prim.Native.String.{String}
 use lib.Dec.{eqb}
+use native.Mathlib.Omega.{arith}
 use lib.ListN.{length}
+use lib.Pointwise.{pointwise}
+use Rattle.std.specs.List.{starts_with}
 use types.Run.{OneOf, miss}
 use denote.Enum.Declared.{tag_of}
 use borrow.Author.Tests.{eqb-true, eq-eqb, ne_eqb}
@@ -19,15 +22,12 @@ use Rattle.rules.specs.Tree.{props_of, rest, nodes_from, nodes_of, is_phandle, a
 use Rattle.rules.specs.Tokens.{token_at}
 use Rattle.rules.specs.declared.Token.{Token}
 use Rattle.rules.specs.declared.Token.TheVariants.{Item}
-use Rattle.rules.specs.contracts.Token as tokened
 use Rattle.rules.specs.declared.Kind.{Kind}
 use Rattle.rules.specs.declared.Kind.TheVariants.{Begin, EndNode, Prop, Nop}
-use Rattle.rules.proofs.Laws.Tests.{and_true, false_or}
+use Rattle.rules.proofs.Laws.Tests.{never, and_true, false_or, eqb_sym}
 use Rattle.rules.proofs.Laws.Octets.{ne_same}
 use Rattle.passes.specs.declared.cells.Seen.{Seen}
 use Rattle.passes.specs.declared.cells.Seen.TheVariants.{Outside, Within, Given}
-use Rattle.passes.specs.declared.cells.Turn.{Turn}
-use Rattle.passes.specs.declared.cells.Turn.TheVariants.{Go, Fault}
 use Rattle.passes.specs.contracts.cells.Seen as seens
 use Rattle.passes.specs.Cells.{had, on_given, on_property, on_has, on_kind}
 use Rattle.rules.specs.Laws.Events.{events_at}
@@ -49,16 +49,28 @@ none_marked n h (s ∷ ss) m =
     let t = and_true (eqb (byte_at (ascii s) 0) 35) (marked ss) m in
     false_or (same n (ascii s)) (among n ss) (ne_same n (ascii s) (λ f. h (ap (λ (l : Bytes). byte_at l 0) f ∙ eqb-true (byte_at (ascii s) 0) 35 t.0))) (none_marked n h ss t.1)
 
-pub none_of : (n : Bytes) → (byte_at n 0 ≡ 35 → ⊥) → among n cells_names ≡ false
+-- `==` on byte strings, as it is asked of their bytes
+pub equal_same : (a b : Bytes) → pointwise eqb a b ≡ same b a
+unfolding same
+equal_same [] [] = refl
+equal_same [] (y ∷ b) = refl
+equal_same (x ∷ a) [] = refl
+equal_same (x ∷ a) (y ∷ b) = ap₂ (λ (p q : Bool). p && q) (eqb_sym x y) (equal_same a b)
+
+pub unmarked : (n : Bytes) → starts_with eqb n (35 ∷ []) ≡ false → among n cells_names ≡ false
 unfolding marked cells_names ascii
-none_of n h = none_marked n h cells_names refl
+unmarked n h = none_marked n (head n h) cells_names refl
+  where
+    head : (m : Bytes) → starts_with eqb m (35 ∷ []) ≡ false → byte_at m 0 ≡ 35 → ⊥
+    head [] k e = let z : ⊥ = omega (arith, e) in z
+    head (b ∷ m) k e = never (starts_with eqb (b ∷ m) (35 ∷ [])) (rw (eq-eqb 35 b (sym e))) k
 
 -- ---- events
 
 -- what follows a turn
-abbrev turned : (place : ℕ) → (Seen → Verdict) → Turn → Verdict
-turned place rest (Go seen) = rest seen
-turned place rest Fault = refuses 11 place
+abbrev turned : (place : ℕ) → (Seen → Verdict) → Answer Seen → Verdict
+turned place rest (Some seen) = rest seen
+turned place rest None = refuses 11 place
 
 unfoldable pub words_rest : Seen → List Event → Verdict
 words_rest seen [] = passes
@@ -77,7 +89,7 @@ in_node (Given v) ps = words_from (some v) ps
 module _ (place v : ℕ) (hd : Option ℕ) (seen : Seen) (go : Option ℕ → Verdict) (ns : Verdict) (then-on : Seen → Verdict)
     (same : then-on seen ≡ (go hd then ns)) (new : then-on (Given v) ≡ (go (some v) then ns)) where
   tests : (a c l d : Bool)
-      → turned place then-on (if c then (if l then Fault else if d then Fault else Go (Given v)) else if a && l then Fault else Go seen)
+      → turned place then-on (if c then (if l then None else if d then None else Some (Given v)) else if a && l then None else Some seen)
       ≡ ((first (record { fails = (c || a) && l; number = 11; place = place } ∷ record { fails = c && d; number = 11; place = place } ∷ []) then go (if c then some v else hd)) then ns)
   tests a true true d = refl
   tests a true false true = refl
@@ -130,8 +142,8 @@ unknown Within v h = refl
 unknown (Given u) v h = absurd (miss (0 ∷ 1 ∷ []) 2 tt h)
 
 -- a property of a node
-pub known : (seen : Seen) (name value : Bytes) → OneOf (1 ∷ 2 ∷ []) (tag_of seens.the_type seen) → on_has seen name value ≡ on_property seen name value
-known Outside name value h = absurd (miss (1 ∷ 2 ∷ []) 0 tt h)
+pub known : (seen : Seen) (name value : Bytes) → (seen ≡ Outside → ⊥) → on_has seen name value ≡ on_property seen name value
+known Outside name value h = absurd (h refl)
 known Within name value h = refl
 known (Given u) name value h = refl
 
@@ -150,18 +162,18 @@ words_start s strings p = ap (words_rest Outside) (events_all (block_of p s stri
 
 module _ (b : Block) (seen : Seen) (at : ℕ) (i : at ≤ length b.structure) (r : Token) (e : r ≡ token_at b.structure at) where
   -- no item follows
-  pub words_stop : OneOf (1 ∷ 2 ∷ []) (tag_of tokened.the_type r) → words_rest seen (events_at b at) ≡ passes
+  pub words_stop : ((kind : Kind) (next : ℕ) → r ≡ Item kind next → ⊥) → words_rest seen (events_at b at) ≡ passes
   words_stop h = ap (words_rest seen) (events_stop b at i r e h) ∙ words_none seen
 
-  module _ (kind : Kind) (next : ℕ) (f : r ≡ Item kind next) (t : Turn) (g : t ≡ on_kind b.structure b.strings seen kind) where
+  module _ (kind : Kind) (next : ℕ) (f : r ≡ Item kind next) (t : Answer Seen) (g : t ≡ on_kind b.structure b.strings seen kind) where
     words_step : words_rest seen (events_at b at) ≡ turned (b.place + at) (λ (q : Seen). words_rest q (events_at b next)) t
     words_step =
         ap (words_rest seen) (events_item b at i r e kind next f)
         ∙ word_turn b seen at kind next (events_at b next)
         ∙ ap (turned (b.place + at) (λ (q : Seen). words_rest q (events_at b next))) (sym g)
 
-    pub words_fault : t ≡ Fault → words_rest seen (events_at b at) ≡ refuses 11 (b.place + at)
+    pub words_fault : t ≡ None → words_rest seen (events_at b at) ≡ refuses 11 (b.place + at)
     words_fault h = words_step ∙ ap (turned (b.place + at) (λ (q : Seen). words_rest q (events_at b next))) h
 
-    pub words_go : (after : Seen) → t ≡ Go after → words_rest after (events_at b next) ≡ words_rest seen (events_at b at)
+    pub words_go : (after : Seen) → t ≡ Some after → words_rest after (events_at b next) ≡ words_rest seen (events_at b at)
     words_go after h = sym (words_step ∙ ap (turned (b.place + at) (λ (q : Seen). words_rest q (events_at b next))) h)

@@ -1,5 +1,5 @@
 -- Refusal 12, on the rows of the node table: what a work space becomes.
-use Rattle.std.specs.Prelude.{Bool, true, false, ◌&&◌, ◌||◌, List, [], ◌∷◌, ℕ, zero, suc, ◌+◌, ◌*◌, eqb, get_or, set, if◌then◌else◌}
+use Rattle.std.specs.Prelude.{Bool, true, false, ◌&&◌, ◌||◌, List, [], ◌∷◌, ℕ, zero, suc, ◌+◌, ◌*◌, eqb, get_or, set, if◌then◌else◌, Option, Some, None}
 use Rattle.std.proofs.Math.Option.{none, some}
 use Rattle.rules.specs.Ceilings.{node_words}
 use Rattle.rules.specs.Octets.{Bytes, word_at, part}
@@ -9,8 +9,7 @@ use Rattle.rules.specs.Tree.{Node, is_phandle, phandle_prop}
 use Rattle.rules.specs.declared.Kind.{Kind}
 use Rattle.rules.specs.declared.Kind.TheVariants.{Begin, EndNode, Prop, Nop}
 use Rattle.doubled.specs.Passes.{has_row}
-use Rattle.passes.specs.declared.shared.Row.{Row}
-use Rattle.passes.specs.declared.shared.Row.TheVariants.{Go, Fault}
+use Rattle.passes.specs.declared.shared.Search.{Search}
 
 -- ---- rows
 
@@ -42,21 +41,24 @@ rows_from w i (n ∷ ns) = elim (phandle_prop n.props) [
 -- ---- the same, token by token
 
 -- the number of the next node
-abbrev pub passed : ℕ → Bool → ℕ
-passed number true = suc number
-passed number false = number
+abbrev pub next_number : ℕ → Bool → ℕ
+next_number number true = suc number
+next_number number false = number
 
-unfoldable pub row_give : List ℕ → (i v : ℕ) → Row × List ℕ
-row_give w i v = elim (row_below w i v) [ true ↦ (Fault, w) | false ↦ (Go (suc i) false, row_given w i v) ]
+abbrev pub passed : Search → ℕ
+passed search = next_number search.number search.wants
+
+unfoldable pub row_give : List ℕ → (i v : ℕ) → Option Search × List ℕ
+row_give w i v = elim (row_below w i v) [ true ↦ (None, w) | false ↦ (Some (record { number = suc i; wants = false }), row_given w i v) ]
 
 -- a property that does or does not give a phandle, where one is looked for or not
-abbrev pub row_prop : (wants gives : Bool) (i v : ℕ) → List ℕ → Row × List ℕ
-row_prop false gives i v w = (Go i false, w)
-row_prop true false i v w = (Go i true, w)
-row_prop true true i v w = row_give w i v
+abbrev pub row_prop : (wants gives : Bool) (search : Search) (v : ℕ) → List ℕ → Option Search × List ℕ
+row_prop false gives search v w = (Some search, w)
+row_prop true false search v w = (Some search, w)
+row_prop true true search v w = row_give w search.number v
 
-abbrev pub row_turn : (s strings : Bytes) → Kind → (wants : Bool) (i : ℕ) → List ℕ → Row × List ℕ
-row_turn s strings (Begin len) wants i w = (Go (passed i wants) true, w)
-row_turn s strings EndNode wants i w = (Go (passed i wants) false, w)
-row_turn s strings (Prop len name value) wants i w = row_prop wants (is_phandle (string_at strings name)) i (word_at (part s value len) 0) w
-row_turn s strings Nop wants i w = (Go i wants, w)
+abbrev pub row_turn : (s strings : Bytes) → Kind → Search → List ℕ → Option Search × List ℕ
+row_turn s strings (Begin len) search w = (Some (record { number = passed search; wants = true }), w)
+row_turn s strings EndNode search w = (Some (record { number = passed search; wants = false }), w)
+row_turn s strings (Prop len name value) search w = row_prop search.wants (is_phandle (string_at strings name)) search (word_at (part s value len) 0) w
+row_turn s strings Nop search w = (Some search, w)

@@ -3,14 +3,16 @@ use mathlib.Core.Path.{◌≡◌, refl, sym, ap₂, ◌∙◌}
 use mathlib.Core.Bool.{Bool, true, false}
 use mathlib.Core.List.Memᴰ
 use mathlib.Core.List.{[], ◌∷◌, ◌++◌}
-use Prim.Native.Nat.{ℕ, ◌+◌, ◌-◌, ◌≤◌, ◌<◌}
+use Prim.Native.Nat.{ℕ}
 use native.Mathlib.Omega.{arith}
-use native.Mathlib.Numerals.{add-one}
 use lib.Dec.{eqb, ltb}
-use lib.ListN.{length, drop, drop_of_length-le, length-drop}
-use lib.Seq.{drop-cons}
-use borrow.Author.Tests.{eqb-true, eqb-false, eq-eqb, ne_eqb, lt-ltb, le-ltb}
-use Rattle.rules.specs.Octets.{Bytes, byte_at, before}
+use Rattle.std.proofs.Common.{Ordering}
+use Rattle.std.specs.Ordering.{nat_cmp, is_lt}
+use Rattle.std.specs.Cmp.Lexicographic.{slice_cmp}
+use Rattle.std.proofs.lemmas.Cmp.{same_from_slice_cmp}
+use Rattle.std.proofs.lemmas.Bool.Decides.{nat_tests}
+use borrow.Author.Tests.{eqb-true, eqb-false, eq-eqb, ne_eqb, le-ltb}
+use Rattle.rules.specs.Octets.{Bytes, before}
 use Rattle.rules.specs.Listing.{◌∈◌}
 use Rattle.rules.proofs.Laws.Tests.{by_test, or_nothing}
 use Rattle.paths.specs.Order.{slash}
@@ -43,77 +45,10 @@ pub before_front : (a r s : Bytes) → before (a ++ r) (a ++ s) ≡ before r s
 before_front [] r s = refl
 before_front (x ∷ a) r s = before_same x x (a ++ r) (a ++ s) refl ∙ before_front a r s
 
--- ---- a loop over two names
-
-module _ (n o : Bytes) (more other : Bool) (k : ℕ) where
-  abbrev pub from : Bool
-  from = before (drop k n ++ slash more) (drop k o ++ slash other)
-
-  module _ (h : k < length n) where
-    pub name_ended : length o ≤ k → other ≡ false → from ≡ false
-    name_ended l e = rw (drop_of_length-le o l, e) (before_none (drop k n ++ slash more))
-
-    pub name_slash : length o ≤ k → other ≡ true → from ≡ ltb (byte_at n k) 47
-    name_slash l e = rw (drop_of_length-le o l, e, drop-cons n k 0 h) (before_last (byte_at n k) 47 _)
-
-    module _ (l : k < length o) where
-      pub name-differ : (byte_at n k ≡ byte_at o k → ⊥) → from ≡ ltb (byte_at n k) (byte_at o k)
-      name-differ e = rw (drop-cons n k 0 h, drop-cons o k 0 l) (before_differ (byte_at n k) (byte_at o k) _ _ e)
-
-      pub name-more : byte_at n k ≡ byte_at o k → from ≡ before (drop (k + 1) n ++ slash more) (drop (k + 1) o ++ slash other)
-      name-more e = rw (add-one k, drop-cons n k 0 h, drop-cons o k 0 l) (before_same (byte_at n k) (byte_at o k) _ _ e)
-
-  pub name_rest : length n ≤ k → from ≡ before (slash more) (drop k o ++ slash other)
-  name_rest h = rw (drop_of_length-le n h)
-
--- ---- what is left of one
-
-module _ (o : Bytes) (more other : Bool) (k : ℕ) where
-  abbrev left : Bool
-  left = before (slash more) (drop k o ++ slash other)
-
-  pub rest_longer : length o ≤ k → more ≡ true → left ≡ false
-  unfolding before
-  rest_longer h e = rw (drop_of_length-le o h, e) (by other)
-    where
-      by : (b : Bool) → before (47 ∷ []) (slash b) ≡ false
-      by true = refl
-      by false = refl
-
-  pub rest_ended : length o ≤ k → more ≡ false → left ≡ other
-  unfolding before
-  rest_ended h e = rw (drop_of_length-le o h, e) (by other)
-    where
-      by : (b : Bool) → before [] (slash b) ≡ b
-      by true = refl
-      by false = refl
-
-  module _ (h : k < length o) where
-    pub rest_shorter : more ≡ false → left ≡ true
-    unfolding before
-    rest_shorter e = rw (e, drop-cons o k 0 h)
-
-    pub rest_differ : more ≡ true → (byte_at o k ≡ 47 → ⊥) → left ≡ ltb 47 (byte_at o k)
-    rest_differ e n = rw (e, drop-cons o k 0 h) (before_differ 47 (byte_at o k) _ _ (λ q. n (sym q)))
-
-    step : more ≡ true → byte_at o k ≡ 47 → left ≡ before [] (drop (k + 1) o ++ slash other)
-    step e f = rw (add-one k, e, drop-cons o k 0 h) (before_same 47 (byte_at o k) _ _ (sym f))
-
-    pub rest_slash : more ≡ true → byte_at o k ≡ 47 → other ≡ true → left ≡ true
-    unfolding before
-    rest_slash e f g = step e f ∙ rw g (by (drop (k + 1) o))
-      where
-        by : (s : Bytes) → before [] (s ++ 47 ∷ []) ≡ true
-        by [] = refl
-        by (x ∷ s) = refl
-
-    pub rest_last : more ≡ true → byte_at o k ≡ 47 → other ≡ false → left ≡ ltb 1 (length o - k)
-    unfolding before
-    rest_last e f g = step e f ∙ rw g (by (drop (k + 1) o) (length-drop (k + 1) o))
-      where
-        by : (s : Bytes) → length s ≡ length o - (k + 1) → before [] (s ++ []) ≡ ltb 1 (length o - k)
-        by [] l = sym (le-ltb 1 (length o - k) (omega arith))
-        by (x ∷ s) l = sym (lt-ltb 1 (length o - k) (omega arith))
+-- the library's order of byte strings
+pub less_before : (s o : Bytes) (r : Ordering) → r ≡ slice_cmp nat_cmp s o → is_lt r ≡ before s o
+unfolding before
+less_before = same_from_slice_cmp nat_cmp is_lt before refl (λ _ _. refl) (λ _ _. refl) (λ x y xs ys o h. grind (arith, nat_tests))
 
 -- ---- whatever follows
 

@@ -1,7 +1,7 @@
 -- A path laid down from its end.
 use mathlib.Core.Path.{◌≡◌, refl, sym, ap, ap₂, ◌∙◌}
 use mathlib.Core.List.{List, [], ◌∷◌, ◌++◌, append_assoc, append-nil}
-use Prim.Native.Nat.{ℕ, ◌+◌, ◌-◌, ◌≤◌, ◌<◌}
+use Prim.Native.Nat.{ℕ, suc, ◌+◌, ◌-◌, ◌≤◌, ◌<◌}
 use native.Mathlib.Omega.{arith}
 use lib.ListN.{length, drop, get_or, length-append, length-take, length-drop, get_or-eq_default}
 use lib.Seq.{get_or-take, ext_get_or}
@@ -100,14 +100,14 @@ path_out b ws count i n h =
     let e = node_out b ws count i h in
     let k : 0 < i = by_le i 0 (λ l. absurd (n (omega arith))) (λ l. l) in
     path_other t i n
-    ∙ spell_step t i i k n
+    ∙ spell_step t i (i - 1) i (omega arith) n
     ∙ ap (λ (x : Node). spell t (i - 1) x.parent ++ 47 ∷ x.name) e
     ∙ ap (λ (x : Bytes). x ++ 47 ∷ []) (spell_root t (i - 1) 0 refl)
 
-pub spell_length : (t : Tree) (k m : ℕ) → 0 < k → (m ≡ 0 → ⊥) → length (spell t k m) ≡ length (spell t (k - 1) (node t m).parent) + length (node t m).name + 1
-spell_length t k m h n =
-    ap length (spell_step t k m h n)
-    ∙ length-append (spell t (k - 1) (node t m).parent) (47 ∷ (node t m).name)
+pub spell_length : (t : Tree) (k j m : ℕ) → k ≡ suc j → (m ≡ 0 → ⊥) → length (spell t k m) ≡ length (spell t j (node t m).parent) + length (node t m).name + 1
+spell_length t k j m h n =
+    ap length (spell_step t k j m h n)
+    ∙ length-append (spell t j (node t m).parent) (47 ∷ (node t m).name)
     ∙ omega arith
 
 -- ---- a path laid down as far as a node
@@ -128,21 +128,23 @@ laid_start t i n at old h e = record {
 }
 
 module _ (t : Tree) (i left m end at : ℕ) (old out : List ℕ) (p : Laid t i left m end at old out) where
-  pub laid_room : 0 < left → (m ≡ 0 → ⊥) → (n : Bytes) → n ≡ (node t m).name → length n + 1 ≤ end
-  laid_room h k n e = omega (arith, p.counted, spell_length t left m h k, ap length e)
+  -- a step up, behind which `on` are left
+  module _ (on : ℕ) (h : left ≡ suc on) (k : m ≡ 0 → ⊥) (n : Bytes) (e : n ≡ (node t m).name) where
+    pub laid_room : length n + 1 ≤ end
+    laid_room = omega (arith, p.counted, spell_length t left on m h k, ap length e)
 
-  pub laid_on : 0 < left → (m ≡ 0 → ⊥) → (n : Bytes) → n ≡ (node t m).name → (q : ℕ) → q ≡ (node t m).parent → (d₂ d₃ : List ℕ)
-      → d₂ ≡ lay out (at + (end - length n)) n → d₃ ≡ lay d₂ (at + (end - length n - 1)) (47 ∷ []) → Laid t i (left - 1) q (end - length n - 1) at old d₃
-  laid_on h k n e q f d₂ d₃ g r = record {
-    counted =
-        omega (arith, p.counted, spell_length t left m h k, ap length e, ap (λ (x : ℕ). length (spell t (left - 1) x)) f);
-    tail = 47 ∷ n ++ p.tail;
-    whole =
-        p.whole
-        ∙ ap (λ (x : Bytes). x ++ p.tail) (spell_step t left m h k ∙ ap₂ (λ (x : ℕ) (y : Bytes). spell t (left - 1) x ++ 47 ∷ y) (sym f) (sym e))
-        ∙ append_assoc (spell t (left - 1) q) (47 ∷ n) p.tail;
-    bytes = lay_name old out d₂ d₃ at end n p.tail (laid_room h k n e) p.bytes g r;
-  }
+    pub laid_on : (q : ℕ) → q ≡ (node t m).parent → (d₂ d₃ : List ℕ)
+        → d₂ ≡ lay out (at + (end - length n)) n → d₃ ≡ lay d₂ (at + (end - length n - 1)) (47 ∷ []) → Laid t i on q (end - length n - 1) at old d₃
+    laid_on q f d₂ d₃ g r = record {
+      counted =
+          omega (arith, p.counted, spell_length t left on m h k, ap length e, ap (λ (x : ℕ). length (spell t on x)) f);
+      tail = 47 ∷ n ++ p.tail;
+      whole =
+          p.whole
+          ∙ ap (λ (x : Bytes). x ++ p.tail) (spell_step t left on m h k ∙ ap₂ (λ (x : ℕ) (y : Bytes). spell t on x ++ 47 ∷ y) (sym f) (sym e))
+          ∙ append_assoc (spell t on q) (47 ∷ n) p.tail;
+      bytes = lay_name old out d₂ d₃ at end n p.tail laid_room p.bytes g r;
+    }
 
   pub laid_end : spell t left m ≡ [] → (d : List ℕ) (n : ℕ) → n ≡ length (path t i) → old ≡ lay d (at + n) (0 ∷ []) → out ≡ lay d at (closed (path t i))
   laid_end e d n f g =

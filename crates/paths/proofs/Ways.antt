@@ -13,7 +13,9 @@ use Rattle.rules.specs.Octets.{Bytes, before}
 use Rattle.rules.specs.Tree.{Tree, node, spell, path}
 use Rattle.rules.specs.Laws.Paths.{Formed, trail}
 use Rattle.rules.proofs.Laws.Paths.{trail_step, by_parent}
-use Rattle.paths.specs.Order.{slash, Behind, Way, Parted}
+use Rattle.std.specs.Prelude.{Option, Some, None}
+use Rattle.paths.specs.declared.order.Fork.{Fork}
+use Rattle.paths.specs.Order.{slash, nearer, Behind, Way, Parted, Leads, Forked}
 use Rattle.paths.proofs.Names.{before_front, before_none, before_nil, before_same, Follows, names_order}
 
 module _ (t : Tree) (w : Formed t) where
@@ -206,5 +208,51 @@ module _ (t : Tree) (w : Formed t) where
         ∙ rw (d.path, e.path) (before_front (trail t at) _ _ ∙ before_same 47 47 _ _ refl)
         ∙ names_order (node t left).name (node t right).name (not (eqb left i)) (not (eqb right j)) p.first.tail p.second.tail (w.plain left) (w.plain right) f d.follows e.follows
 
-pub meet : (t : Tree) (i j a b left right : ℕ) → a ≡ b → Parted t i j a b left right → Parted t i j a a left right
-meet t i j a b left right e p = subst (λ (x : ℕ). Parted t i j a x left right) (sym e) p
+-- ---- as a fork has it
+
+module _ (t : Tree) (w : Formed t) (i j : ℕ) where
+  pub fork_start : i < length t → j < length t → Forked t i j i j (record { left = None; right = None })
+  fork_start g h = record { left = i; right = j; parted = both_start t w i j g h; first = refl; second = refl }
+
+  module _ (a b : ℕ) (f : Fork) (p : Forked t i j a b f) (q : ℕ) where
+    pub fork_right : a < b → q ≡ nearer t b → q < b → Forked t i j a q (record { left = f.left; right = Some b })
+    fork_right h e l = record {
+      left = p.left;
+      right = b;
+      parted = climb_second t w i j a b p.left p.right q h e p.parted;
+      first = p.first;
+      second = (refl, l);
+    }
+
+    pub fork_left : b < a → q ≡ nearer t a → q < a → Forked t i j q b (record { left = Some a; right = f.right })
+    fork_left h e l = record {
+      left = a;
+      right = p.right;
+      parted = climb_first t w i j a b p.left p.right q h e p.parted;
+      first = (refl, l);
+      second = p.second;
+    }
+
+  pub fork_met : (a b : ℕ) (f : Fork) → a ≡ b → Forked t i j a b f → (at : ℕ) × Forked t i j at at f
+  fork_met a b f e p = (a, subst (λ (x : ℕ). Forked t i j a x f) (sym e) p)
+
+  module _ (g : i < length t) (h : j < length t) (at : ℕ) (f : Fork) (p : Forked t i j at at f) where
+    -- j is i, or above it
+    pub fork_above : f.right ≡ None → before (path t i) (path t j) ≡ false
+    fork_above e = order_above t w i j at p.left p.right g h p.parted (subst (λ (o : Option ℕ). Leads at o p.right) e p.second)
+
+    module _ (right : ℕ) (e : f.right ≡ Some right) where
+      met_right : (p.right ≡ right) × (at < right)
+      met_right = subst (λ (o : Option ℕ). Leads at o p.right) e p.second
+
+      -- i is above j
+      pub fork_below : f.left ≡ None → before (path t i) (path t j) ≡ true
+      fork_below d =
+          order_below t w i j at p.left p.right g h p.parted (λ z. omega (arith, met_right)) (subst (λ (o : Option ℕ). Leads at o p.left) d p.first)
+
+      pub fork_names : (left : ℕ) → f.left ≡ Some left
+          → before (path t i) (path t j) ≡ before ((node t left).name ++ slash (not (eqb left i))) ((node t right).name ++ slash (not (eqb right j)))
+      fork_names left d =
+          let m : (p.left ≡ left) × (at < left) = subst (λ (o : Option ℕ). Leads at o p.left) d p.first in
+          order_names t w i j at p.left p.right g h p.parted (λ z. omega (arith, met_right)) (λ z. omega (arith, m))
+          ∙ rw (m.0, met_right.0)

@@ -1,53 +1,45 @@
 // A node's parent and name, and climbing from parent to parent.
-ghost use Rattle.std.specs.Prelude.{◌≡◌, ◌<◌};
-ghost use Rattle.rules.specs.Octets.{Bytes};
-ghost use Rattle.rules.specs.Blob.{Block};
+ghost use Rattle.std.specs.Prelude.{◌≡◌};
 ghost use Rattle.rules.specs.Tree.{node, below};
-ghost use Rattle.rules.specs.Laws.Tabled.{tree_in, tree_of};
+ghost use Rattle.rules.specs.Laws.Lent.{tree_lent};
 
 use references::table::{begin_of, cell};
+use rules::Tree;
 
 // The number of the parent of node i; 0 for the root and past the last row.
-pub fn up(work: &[u32], count: usize, i: usize) -> usize
-    ensures { (b : Block) → result ≡ (node (tree_in b work.now count) i).parent }
+pub fn up(tree: &Tree, i: usize) -> usize
+    ensures { result ≡ (node (tree_lent tree.now) i).parent }
 {
-    if count <= i {
+    if tree.count <= i {
         return 0;
     }
-    cell(work, i, 1) as usize
+    cell(tree.work, i, 1) as usize
 }
 
 // The name of node i; empty for the root and past the last row.
-pub fn name<'a, 'b>(
-    structure: &'a [u8],
-    place: usize,
-    work: &'b [u32],
-    count: usize,
-    i: usize,
-) -> &'a [u8]
-    ensures { (strings : Bytes) → result.now ≡ (node (tree_of place structure.now strings work.now count) i).name }
+pub fn name<'a>(tree: &Tree<'a, '_>, i: usize) -> &'a [u8]
+    ensures { result.now ≡ (node (tree_lent tree.now) i).name }
 {
-    if count <= i {
-        return &structure[..0];
+    if tree.count <= i {
+        return &[];
     }
-    octets::string_at(structure, begin_of(work, place, i) + 4)
+    // It stands behind its token; a place that is no usize is past the end.
+    octets::string_at(tree.block.structure, begin_of(tree, i).saturating_add(4))
 }
 
-// Whether node m is below node p.
-pub fn below(work: &[u32], count: usize, p: usize, m: usize) -> bool
-    ensures { (b : Block) → result ≡ below (tree_in b work.now count) p m }
+// Whether node m is below node p. A parent's number is smaller than its child's, so that m steps up are enough.
+pub fn below(tree: &Tree, p: usize, m: usize) -> bool
+    ensures { result ≡ below (tree_lent tree.now) p m }
 {
-    let mut left = m;
     let mut at = m;
-    while 0 < left {
+    for _ in 0..m {
         if at == 0 {
             return false;
         }
-        at = up(work, count, at);
+        at = up(tree, at);
         if at == p {
             return true;
         }
-        left -= 1;
     }
     false
 }

@@ -1,4 +1,4 @@
--- The codes, node by node.
+-- How each node stands, node by node.
 use Rattle.std.specs.Prelude.{if◌then◌else◌}
 use mathlib.Core.Path.{◌≡◌, refl, sym, ap, ap₂, ◌∙◌}
 use mathlib.Core.Bool.{Bool, true, false}
@@ -7,7 +7,7 @@ use Prim.Native.Nat.{ℕ, zero, suc, ◌+◌, ◌≤◌, ◌<◌}
 use native.Mathlib.Omega.{arith}
 use lib.Dec.{eqb, ltb}
 use lib.ListN.{length, get_or}
-use borrow.Author.Tests.{eqb-true, eqb-false, eq-eqb, ne_eqb, lt-ltb, le-ltb}
+use borrow.Author.Tests.{eqb-true, eqb-false, lt-ltb, le-ltb}
 use Rattle.rules.specs.Ceilings.{node_ceiling}
 use Rattle.rules.specs.Octets.{lay}
 use Rattle.rules.specs.Blob.{Block}
@@ -21,9 +21,11 @@ use Rattle.rules.specs.Laws.Kept.{Kept}
 use Rattle.rules.proofs.Laws.Kept.{only_then, only_one, only_tree, marks_behind, list_behind, stack_behind, names_behind, names_room}
 use Rattle.rules.specs.Laws.Tabled.{tree_in}
 use Rattle.rules.proofs.Laws.Tabled.{tree_length}
-use Rattle.picks.specs.Marks.{marked, Noted}
-use Rattle.picks.specs.Codes.{next, taken, code_of, code_root, code_step, taken_picked}
-use Rattle.picks.specs.Turns.{parent_code, code_at, mark_at, turned, pick_of, Coded, Picks}
+use Rattle.picks.specs.Marks.{marked}
+use Rattle.picks.specs.declared.standing.Standing.{Standing}
+use Rattle.picks.specs.declared.standing.Standing.TheVariants.{Plain, Listed, Excluded, Kept as Keeps, Dropped}
+use Rattle.picks.specs.Standings.{word_of, standing_in, next, outside, taken, standing_of, word_back, standing_root, standing_step, taken_picked}
+use Rattle.picks.specs.Turns.{parent_standing, standing_at, mark_at, turned, pick_of, Coded, Picks}
 
 -- only a child of `/cpus` is a stranger
 tame : (t : Tree) (ids : List ℕ) (i : ℕ) → is_cpus (frame t) (node t i).parent ≡ false → stranger t ids i ≡ false
@@ -40,16 +42,6 @@ module _ (b : Block) (ws : List ℕ) (count : ℕ) (kept : Kept b ws count) (exc
   size : length t ≡ count
   size = tree_length b ws count 0
 
-  pub coded_first : (vs : List ℕ) → Noted count ws vs ls → Coded t count excl ids ls ws vs 0
-  coded_first vs m = record {
-    only = m.only;
-    list = m.list;
-    codes = λ x h. absurd (let z : ⊥ = omega arith in z);
-    picks = λ x h. absurd (let z : ⊥ = omega arith in z);
-    own = λ x g h. m.own x h;
-    over = λ x h. m.over b x h;
-  }
-
   pub coded_last : (vs : List ℕ) → Coded t count excl ids ls ws vs count → Picks b count n excl ids ws vs
   coded_last vs c = record { only = c.only; list = c.list; picks = λ x h. c.picks x h }
 
@@ -57,39 +49,39 @@ module _ (b : Block) (ws : List ℕ) (count : ℕ) (kept : Kept b ws count) (exc
     same_tree : tree_in b vs count ≡ t
     same_tree = only_tree b count marks_behind kept.few c.only
 
-    -- the code that the words say is the node's
-    code_is : (k : ℕ) → k ≡ i → code_at b vs count excl ids i ≡ code_of (frame t) (stranger t ids) ids excl ls i
-    code_is zero e =
+    -- what the words say is how the node stands
+    standing_is : (k : ℕ) → k ≡ i → standing_at b vs count excl ids i ≡ standing_of (frame t) (stranger t ids) ids excl ls i
+    standing_is zero e =
         let z : i ≡ 0 = sym e in
         let o : ltb (node t 0).parent 0 ≡ false = le-ltb (node t 0).parent 0 (omega arith) in
         rw (same_tree, c.own i (omega arith) h, z, o)
-        (code_root t kept.formed (stranger t ids) ids excl ls kept.top (tame t ids) (omega (arith, size, kept.some)))
-    code_is (suc k) e =
+        (standing_root t kept.formed (stranger t ids) ids excl ls kept.top (tame t ids) (omega (arith, size, kept.some)))
+    standing_is (suc k) e =
         let z : i ≡ suc k = sym e in
         let l : suc k < length t = omega (arith, size) in
         let p : (node t (suc k)).parent < i = omega (arith, kept.formed.up k l) in
         let o : ltb (node t (suc k)).parent (suc k) ≡ true = lt-ltb (node t (suc k)).parent (suc k) (omega (arith, p)) in
         rw (same_tree, c.own i (omega arith) h)
-        (rw (z, o) (ap (next (null ids) (is_cpus (frame t) (suc k)) (stranger t ids (suc k)) (one_of (suc k) excl) (one_of (suc k) ls)) (c.codes (node t (suc k)).parent p)
-        ∙ code_step t kept.formed (stranger t ids) ids excl ls kept.top (tame t ids) k l))
+        (rw (z, o) (ap (next (null ids) (is_cpus (frame t) (suc k)) (stranger t ids (suc k)) (one_of (suc k) excl) (one_of (suc k) ls)) (ap standing_in (c.standings (node t (suc k)).parent p) ∙ word_back (standing_of (frame t) (stranger t ids) ids excl ls (node t (suc k)).parent))
+        ∙ standing_step t kept.formed (stranger t ids) ids excl ls kept.top (tame t ids) k l))
 
-    abbrev own_code : ℕ
-    own_code = code_at b vs count excl ids i
+    abbrev own_standing : Standing
+    own_standing = standing_at b vs count excl ids i
 
-    mark_is : mark_at vs i own_code ≡ pick_of t excl ids ls i
+    mark_is : mark_at vs i own_standing ≡ pick_of t excl ids ls i
     mark_is =
-        ap₂ (λ (d : ℕ) (o : Bool). if taken (eqb i 0) d o then 1 else 0) (code_is i refl) (c.over i h)
+        ap₂ (λ (d : Standing) (o : Bool). if taken (eqb i 0) d o then 1 else 0) (standing_is i refl) (c.over i h)
         ∙ ap (λ (d : Bool). if d then 1 else 0) (taken_picked (record { conf = []; excl = excl; ids = ids }) t (stranger t ids) ls i)
 
     pub coded_more : (us : List ℕ) → us ≡ turned b vs count excl ids i → Coded t count excl ids ls ws us (i + 1)
     coded_more us e = rw e (record {
-      only = only_then c.only (only_then (only_one vs (stack_at + i) own_code (omega (arith, list_behind, stack_behind)) (omega (arith, names_behind, names_room, few))) (only_one mid (marks_at + i) own-mark (omega arith) (omega (arith, list_behind, stack_behind, names_behind, names_room, few))));
+      only = only_then c.only (only_then (only_one vs (stack_at + i) own_word (omega (arith, list_behind, stack_behind)) (omega (arith, names_behind, names_room, few))) (only_one mid (marks_at + i) own-mark (omega arith) (omega (arith, list_behind, stack_behind, names_behind, names_room, few))));
       list = λ x g l. outer x (λ q. omega (arith, list_behind, g, few)) ∙ inner x (λ q. omega (arith, l)) ∙ c.list x g l;
-      codes = λ x l. outer (stack_at + x) (λ q. omega (arith, list_behind, stack_behind, few)) ∙ by_test (eqb x i)
-          (λ q. let z : x ≡ i = eqb-true x i q in rw z (lay_one_same vs (stack_at + i) own_code 0 (omega (arith, names_behind, names_room, c.only.size, kept.room, few)) ∙ code_is i refl))
-          (λ q. inner (stack_at + x) (λ z. eqb-false x i q (omega arith)) ∙ c.codes x (omega (arith, eqb-false x i q)));
+      standings = λ x l. outer (stack_at + x) (λ q. omega (arith, list_behind, stack_behind, few)) ∙ by_test (eqb x i)
+          (λ q. let z : x ≡ i = eqb-true x i q in rw z (lay_one_same vs (stack_at + i) own_word 0 (omega (arith, names_behind, names_room, c.only.size, kept.room, few)) ∙ ap word_of (standing_is i refl)))
+          (λ q. inner (stack_at + x) (λ z. eqb-false x i q (omega arith)) ∙ c.standings x (omega (arith, eqb-false x i q)));
       picks = λ x l. by_test (eqb x i)
-          (λ q. let z : x ≡ i = eqb-true x i q in rw z (lay_one_same mid (marks_at + i) own-mark 0 (omega (arith, list_behind, stack_behind, names_behind, names_room, c.only.size, kept.room, few, length_lay vs (stack_at + i) (own_code ∷ []))) ∙ mark_is))
+          (λ q. let z : x ≡ i = eqb-true x i q in rw z (lay_one_same mid (marks_at + i) own-mark 0 (omega (arith, list_behind, stack_behind, names_behind, names_room, c.only.size, kept.room, few, length_lay vs (stack_at + i) (own_word ∷ []))) ∙ mark_is))
           (λ q. outer (marks_at + x) (λ z. eqb-false x i q (omega arith)) ∙ inner (marks_at + x) (λ z. omega (arith, list_behind, stack_behind, l, few)) ∙ c.picks x (omega (arith, eqb-false x i q)));
       own = λ x g l. ap (λ (y : ℕ). eqb y 1) (outer (marks_at + x) (λ z. omega arith) ∙ inner (marks_at + x) (λ z. omega (arith, list_behind, stack_behind, l, few))) ∙ c.own x (omega arith) l;
       over = λ x l. ap (λ (y : ℕ). eqb y 1) (outer (names_at + x) (λ z. omega (arith, list_behind, stack_behind, names_behind, few)) ∙ inner (names_at + x) (λ z. omega (arith, names_behind, few))) ∙ c.over x l;
@@ -99,13 +91,16 @@ module _ (b : Block) (ws : List ℕ) (count : ℕ) (kept : Kept b ws count) (exc
         few = kept.few
 
         own-mark : ℕ
-        own-mark = mark_at vs i own_code
+        own-mark = mark_at vs i own_standing
+
+        own_word : ℕ
+        own_word = word_of own_standing
 
         mid : List ℕ
-        mid = lay vs (stack_at + i) (own_code ∷ [])
+        mid = lay vs (stack_at + i) (own_word ∷ [])
 
         inner : (x : ℕ) → (x ≡ stack_at + i → ⊥) → get_or mid x 0 ≡ get_or vs x 0
-        inner x q = lay_one_other vs (stack_at + i) own_code 0 x q
+        inner x q = lay_one_other vs (stack_at + i) own_word 0 x q
 
         outer : (x : ℕ) → (x ≡ marks_at + i → ⊥) → get_or (lay mid (marks_at + i) (own-mark ∷ [])) x 0 ≡ get_or mid x 0
         outer x q = lay_one_other mid (marks_at + i) own-mark 0 x q
@@ -113,47 +108,24 @@ module _ (b : Block) (ws : List ℕ) (count : ℕ) (kept : Kept b ws count) (exc
 -- ---- what the code reads
 
 module _ (b : Block) (ws : List ℕ) (count i p : ℕ) (e : p ≡ (node (tree_in b ws count) i).parent) where
-  pub parent_none : i ≤ p → 0 ≡ parent_code b ws count i
-  parent_none h = rw (← e, le-ltb p i h)
-
-  pub parent_some : p < i → get_or ws (stack_at + p) 0 ≡ parent_code b ws count i
+  pub parent_some : p < i → standing_in (get_or ws (stack_at + p) 0) ≡ parent_standing b ws count i
   parent_some h = rw (← e, lt-ltb p i h)
 
-pub null_yes : (l : List ℕ) → length l ≡ 0 → null l ≡ true
-null_yes [] e = refl
-null_yes (x ∷ l) e = absurd (let z : ⊥ = omega arith in z)
-
-pub null_no : (l : List ℕ) → (length l ≡ 0 → ⊥) → null l ≡ false
-null_no [] e = absurd (e refl)
-null_no (x ∷ l) e = refl
-
-module _ (n c s x w : Bool) (p : ℕ) where
-  pub of_cpus_none : c ≡ true → n ≡ true → 4 ≡ next n c s x w p
-  of_cpus_none e f = rw (e, f)
-
-  pub of_cpus : c ≡ true → n ≡ false → 3 ≡ next n c s x w p
-  of_cpus e f = rw (e, f)
-
-  module _ (e : c ≡ false) where
-    pub of_stranger : p ≡ 3 → s ≡ true → 4 ≡ next n c s x w p
-    of_stranger f g = rw (e, eq-eqb p 3 f, g)
-
-    pub of_friend : p ≡ 3 → s ≡ false → 3 ≡ next n c s x w p
-    of_friend f g = rw (e, eq-eqb p 3 f, g)
-
-    pub of_dropped : p ≡ 4 → 4 ≡ next n c s x w p
-    of_dropped f = rw (e, f)
-
-    pub of_outside : (q : ℕ) → q ≡ p → (q ≡ 3 → ⊥) → (q ≡ 4 → ⊥) → (y : Bool) → y ≡ x → (v : Bool) → v ≡ w → (r : ℕ)
-        → r ≡ (if eqb q 2 then 2 else (if y then 2 else (if v then 1 else q))) → r ≡ next n c s x w p
-    of_outside q f a b y g v h r k = k ∙ rw (e, ne_eqb p 3 (λ z. a (f ∙ z)), ne_eqb p 4 (λ z. b (f ∙ z)), g, h, f)
+-- outside `/cpus`
+module _ (n c s x w : Bool) (e : c ≡ false) (y : Bool) (f : y ≡ x) (v : Bool) (g : v ≡ w) where
+  pub of_outside : (p : Standing) → (p ≡ Keeps → ⊥) → (p ≡ Dropped → ⊥) → (r : Standing) → r ≡ outside p y v → r ≡ next n c s x w p
+  of_outside Keeps a b r k = absurd (a refl)
+  of_outside Dropped a b r k = absurd (b refl)
+  of_outside Plain a b r k = k ∙ rw (e, f, g)
+  of_outside Listed a b r k = k ∙ rw (e, f, g)
+  of_outside Excluded a b r k = k ∙ rw e
 
 -- ---- a turn, as the code takes it
 
 module _ (b : Block) (ws : List ℕ) (count : ℕ) (excl ids : List ℕ) (i : ℕ) where
-  pub turned_is : (c : ℕ) → c ≡ code_at b ws count excl ids i → (o : Bool) → o ≡ marked ws names_at i → (m : ℕ) → m ≡ (if taken (eqb i 0) c o then 1 else 0)
-      → (vs : List ℕ) → vs ≡ lay ws (stack_at + i) (c ∷ []) → (us : List ℕ) → us ≡ lay vs (marks_at + i) (m ∷ []) → us ≡ turned b ws count excl ids i
-  turned_is c e o f m g vs h us k = k ∙ rw (h, g, f, e)
+  pub turned_is : (c : Standing) → c ≡ standing_at b ws count excl ids i → (o : Bool) → o ≡ marked ws names_at i → (m : ℕ) → m ≡ (if taken (eqb i 0) c o then 1 else 0)
+      → (d : ℕ) → d ≡ word_of c → (vs : List ℕ) → vs ≡ lay ws (stack_at + i) (d ∷ []) → (us : List ℕ) → us ≡ lay vs (marks_at + i) (m ∷ []) → us ≡ turned b ws count excl ids i
+  turned_is c e o f m g d z vs h us k = k ∙ rw (h, z, g, f, e)
 
   pub turned_length : length (turned b ws count excl ids i) ≡ length ws
   turned_length = length_lay _ (marks_at + i) _ ∙ length_lay ws (stack_at + i) _

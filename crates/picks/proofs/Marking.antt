@@ -53,13 +53,14 @@ climb_step t zero p at h g = absurd (let z : ⊥ = omega arith in z)
 climb_step t (suc left) p zero h g = absurd (let z : ⊥ = omega arith in z)
 climb_step t (suc left) p (suc at) h g = let e : suc left - 1 ≡ left = omega arith in rw e
 
+-- a node's parent is said by the table, whatever the block
+pub parent_any : (a b : Block) (ws : List ℕ) (count i : ℕ) → i < count → (node (tree_in a ws count) i).parent ≡ (node (tree_in b ws count) i).parent
+parent_any a b ws count i h = ap (λ (n : Node). n.parent) (node_in_lem a ws count i h) ∙ ap (λ (n : Node). n.parent) (sym (node_in_lem b ws count i h))
+
 pub record Climbing (count : ℕ) (ws vs : List ℕ) (j left at : ℕ) : Type 0 where
   pub only : Only names_at work_words ws vs
   pub inside : at < count
   pub marks : (b : Block) (x : ℕ) → x < count → (marked vs names_at x || climb (tree_in b ws count) left x at) ≡ (marked ws names_at x || below (tree_in b ws count) x j)
-
-pub climbing_first : (count : ℕ) (ws : List ℕ) (j : ℕ) → j < count → Climbing count ws ws j j j
-climbing_first count ws j h = record { only = only_none ws; inside = h; marks = λ b x l. refl }
 
 module _ (count : ℕ) (ws : List ℕ) (k : Keeps ws count) where
   table_names : table_words ≤ names_at
@@ -70,7 +71,7 @@ module _ (count : ℕ) (ws : List ℕ) (k : Keeps ws count) where
   parent_less b vs o zero g h = absurd (let z : ⊥ = omega arith in z)
   parent_less b vs o (suc at) g h =
       let e : (node (tree_in b vs count) (suc at)).parent ≡ (node (tree_in k.0 vs count) (suc at)).parent =
-      ap (λ (n : Node). n.parent) (node_in_lem b vs count (suc at) h) ∙ ap (λ (n : Node). n.parent) (sym (node_in_lem k.0 vs count (suc at) h)) in
+      parent_any b k.0 vs count (suc at) h in
       let f : (node (tree_in k.0 vs count) (suc at)).parent ≡ (node (tree_in k.0 ws count) (suc at)).parent =
       ap (λ (t : Tree). (node t (suc at)).parent) (only_tree k.0 count table_names k.1.few o) in
       omega (arith, k.1.formed.up at (omega (arith, tree_length k.0 ws count 0)), e, f)
@@ -182,9 +183,6 @@ module _ (count : ℕ) (ws : List ℕ) (keeps : Keeps ws count) where
         → ((b : Block) (x : ℕ) → x < count → marked us names_at x ≡ (marked mid names_at x || below (tree_in b mid count) x j))
         → Noted count ws us (list_in ws (k + 1))
     noted_more mid d us o m = more us (rw (← d) o) (rw (← d) m)
-
-pub noted_done : (count : ℕ) (ws vs : List ℕ) (k n : ℕ) → k ≤ n → n ≤ k → Noted count ws vs (list_in ws k) → Noted count ws vs (list_in ws n)
-noted_done count ws vs k n h g m = let e : k ≡ n = omega arith in rw (← e) m
 
 -- ---- cleared first
 

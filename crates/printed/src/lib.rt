@@ -13,27 +13,6 @@ const DIGITS: usize = 20;
 
 // ---- pieces
 
-// The place n behind `at`, or the end of a buffer of `len` bytes where that comes first.
-fn reached(len: usize, at: usize, n: usize) -> usize
-    ensures { result ≡ min (at + n) len }
-{
-    if len <= at {
-        return len;
-    }
-    if len - at < n {
-        return len;
-    }
-    at + n
-}
-
-// Lays bytes into `out` from a place on, and answers where they end, or the end of `out` where that comes first.
-fn put(out: &mut [u8], at: usize, bytes: &[u8]) -> usize
-    ensures { Laid out.old at bytes.now out.new result }
-{
-    octets::put_bytes(out, at, bytes);
-    reached(out.len(), at, bytes.len())
-}
-
 // The last digit of a number.
 fn digit(n: u64) -> u8
     ensures { result ≡ 48 + n % 10 }
@@ -41,9 +20,9 @@ fn digit(n: u64) -> u8
     b'0' + (n % 10) as u8
 }
 
-// Spells a number at the end of `text`, which has room for the most digits, and answers where they begin.
-fn spell(n: u64, text: &mut [u8]) -> usize
-    requires { length text.old ≡ 20 }
+// Spells a number at the end of `text` and answers where its digits begin.
+// From the last digit on, as long as there are more: a `for` over the places would leave at the first digit, and be no plainer.
+fn spell(n: u64, text: &mut [u8; DIGITS]) -> usize
     ensures { (result < 20) × (drop result text.new ≡ decimal n) }
 {
     let mut rest = n;
@@ -57,13 +36,21 @@ fn spell(n: u64, text: &mut [u8]) -> usize
     first
 }
 
+// Lays bytes into `out` from a place on, and answers where they end, or the end of `out` where that comes first.
+fn put(out: &mut [u8], at: usize, bytes: &[u8]) -> usize
+    ensures { Laid out.old at bytes.now out.new result }
+{
+    octets::put(out, at, bytes);
+    at.saturating_add(bytes.len()).min(out.len())
+}
+
 // Lays a number in decimal into `out` from a place on, and answers where it ends, or the end of `out` where that comes first.
 pub fn decimal(n: u64, out: &mut [u8], at: usize) -> usize
     ensures { Laid out.old at (decimal n) out.new result }
 {
     let mut text = [0u8; DIGITS];
     let first = spell(n, &mut text);
-    put(out, at, octets::part(&text, first, DIGITS))
+    put(out, at, &text[first..])
 }
 
 // A byte of a path list in print: the NUL that closes a path ends its line.
@@ -77,13 +64,45 @@ fn in_line(b: u8) -> u8
 fn put_lines(out: &mut [u8], at: usize, list: &[u8]) -> usize
     ensures { Laid out.old at (in_lines list.now) out.new result }
 {
-    let end = reached(out.len(), at, list.len());
-    let mut p = at;
-    while p < end {
+    let end = at.saturating_add(list.len()).min(out.len());
+    for p in at..end {
         out[p] = in_line(list[p - at]);
-        p += 1;
     }
     end
+}
+
+// A text under way: the buffer that it is laid into, and where what is laid so far ends, or the end of the buffer where that
+// comes first. Pieces in place of one `write!`, which promises nothing of a text that is cut.
+#[derive(Drop)]
+struct Text<'a> {
+    out: &'a mut [u8],
+    end: usize,
+}
+
+impl<'a> Text<'a> {
+    // Lays bytes behind what is laid so far.
+    fn bytes(&mut self, bytes: &[u8])
+        ensures laid { Laid self.old.out.now self.old.end bytes.now self.new.out.now self.new.end }
+        ensures same_reference { self.new.out.ghost_name ≡ self.old.out.ghost_name }
+    {
+        self.end = put(self.out, self.end, bytes);
+    }
+
+    // Lays a number in decimal behind what is laid so far.
+    fn number(&mut self, n: u64)
+        ensures laid { Laid self.old.out.now self.old.end (decimal n) self.new.out.now self.new.end }
+        ensures same_reference { self.new.out.ghost_name ≡ self.old.out.ghost_name }
+    {
+        self.end = decimal(n, self.out, self.end);
+    }
+
+    // Lays a path list behind what is laid so far, each path in a line.
+    fn lines(&mut self, list: &[u8])
+        ensures laid { Laid self.old.out.now self.old.end (in_lines list.now) self.new.out.now self.new.end }
+        ensures same_reference { self.new.out.ghost_name ≡ self.old.out.ghost_name }
+    {
+        self.end = put_lines(self.out, self.end, list);
+    }
 }
 
 // ---- the two texts
@@ -94,11 +113,13 @@ pub fn refusal(number: u64, place: u64, out: &mut [u8]) -> usize
     ensures value { result ≡ min (length (printed_refusal number place)) (length out.old) }
     ensures out_after { out.new ≡ lay out.old 0 (printed_refusal number place) }
 {
-    let a = put(out, 0, b"refused ");
-    let b = decimal(number, out, a);
-    let c = put(out, b, b" at ");
-    let e = decimal(place, out, c);
-    put(out, e, b"\n")
+    let mut text = Text { out, end: 0 };
+    text.bytes(b"refused ");
+    text.number(number);
+    text.bytes(b" at ");
+    text.number(place);
+    text.bytes(b"\n");
+    text.end
 }
 
 // Lays the text of an answer into `out`, as `refusal` does: how many paths, the list with each of its NULs turned into a
@@ -108,11 +129,13 @@ pub fn answer(paths: usize, list: &[u8], guest: usize, out: &mut [u8]) -> usize
     ensures value { result ≡ min (length (answer_text paths list.now guest)) (length out.old) }
     ensures out_after { out.new ≡ lay out.old 0 (answer_text paths list.now guest) }
 {
-    let a = put(out, 0, b"paths ");
-    let b = decimal(paths as u64, out, a);
-    let c = put(out, b, b"\n");
-    let e = put_lines(out, c, list);
-    let f = put(out, e, b"guest ");
-    let g = decimal(guest as u64, out, f);
-    put(out, g, b"\n")
+    let mut text = Text { out, end: 0 };
+    text.bytes(b"paths ");
+    text.number(paths as u64);
+    text.bytes(b"\n");
+    text.lines(list);
+    text.bytes(b"guest ");
+    text.number(guest as u64);
+    text.bytes(b"\n");
+    text.end
 }

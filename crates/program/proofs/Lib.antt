@@ -1,6 +1,5 @@
 -- What the proofs of the program share.
 pub mod Judged
-pub mod Short
 pub mod Plain
 pub mod Printing
 pub mod Whole

@@ -18,9 +18,9 @@ use Rattle.rules.proofs.Laws.Tests.{by_test}
 use Rattle.rules.proofs.Laws.Verdicts.{gives_refuses, then_passes, passes_then}
 use Rattle.rules.proofs.Laws.Octets.{length_lay, lay_put}
 use Rattle.printed.specs.Text.{answer_text, answer_printed}
+use Rattle.std.specs.Prelude.{Result, Ok, Err}
 use Rattle.derive.specs.Answers.{number_of, place_of, meaning}
-use Rattle.derive.specs.declared.Answer.{Answer}
-use Rattle.derive.specs.declared.Answer.TheVariants as answer
+use Rattle.derive.specs.declared.Derived as lent
 use Rattle.derive.specs.declared.Refusal.{Refusal}
 use Rattle.program.specs.declared.Ran.{Ran}
 use Rattle.program.specs.Run.{outcome_in, printed_in, answered, guest_left, text_of, ran_of, front}
@@ -84,7 +84,7 @@ module _ (host input : Bytes) (G : ℕ) (pi : input_judged input ≡ passes) (ph
   derives = ap (printed edition1 host input) (passes_then (input_judged input) (host_judged host then outcome) pi ∙ passes_then (host_judged host) outcome ph)
 
   -- a refusal
-  module _ (f : Refusal) (m : meaning (answer.Refused f) ≡ outcome) where
+  module _ (f : Refusal) (m : meaning (Err f) ≡ outcome) where
     refuses_so : outcome ≡ refuses (number_of f) (place_of f)
     refuses_so = sym m
 
@@ -92,7 +92,7 @@ module _ (host input : Bytes) (G : ℕ) (pi : input_judged input ≡ passes) (ph
     refused_text = derives ∙ ap (printed edition1 host input) refuses_so
 
   -- an answer
-  module _ (p l g : ℕ) (m : meaning (answer.Derived p l g) ≡ outcome) where
+  module _ (p l g : ℕ) (m : meaning (Ok (record { paths = p; list = l; guest = g })) ≡ outcome) where
     gave_so : Gave edition1 host asked program_ceiling (record { paths = p; list_length = l; guest_length = g })
     gave_so = gave edition1 host asked work_words program_ceiling G (record { paths = p; list_length = l; guest_length = g }) (sym m)
 
@@ -116,27 +116,27 @@ module _ (host input : Bytes) (G : ℕ) (pi : input_judged input ≡ passes) (ph
 -- ---- joined
 
 -- what an answer and the list say of the program
-pub record Tells (host input : Bytes) (G : ℕ) (a : Answer) (list : Bytes) : Type 0 where
+pub record Tells (host input : Bytes) (G : ℕ) (a : Result lent.Derived Refusal) (list : Bytes) : Type 0 where
   pub text : text_of a list ≡ (printed_in edition1 host input G).text
   pub ran : (room : ℕ) → ran_of a (min (length (text_of a list)) room) ≡ answered (printed_in edition1 host input G) room
   pub guest : (old : Bytes) → length old ≡ G → derive_guest edition1 host (request_in input) work_words program_ceiling old ≡ guest_left (printed_in edition1 host input G) old
 
 module _ (host input : Bytes) (G : ℕ) (pi : input_judged input ≡ passes) (ph : host_judged host ≡ passes) (old list : Bytes) (n : length old ≡ program_ceiling) (e : list ≡ derive_list edition1 host (request_in input) work_words G old) where
-  pub tells : (a : Answer) → meaning a ≡ derive edition1 host (request_in input) work_words program_ceiling G → Tells host input G a list
+  pub tells : (a : Result lent.Derived Refusal) → meaning a ≡ derive edition1 host (request_in input) work_words program_ceiling G → Tells host input G a list
   unfolding answered guest_left derive_guest
-  tells (answer.Refused f) m =
+  tells (Err f) m =
       let t = refused_text host input G pi ph f m in
       record {
         text = rw t;
         ran = λ room. rw t;
         guest = λ was k. rw (t, k, refuses_so host input G pi ph f m);
       }
-  tells (answer.Derived p l g) m =
-      let t = derived_text host input G pi ph p l g m in
-      let s = list_text host input G pi ph p l g m list (list_front host input G pi ph p l g m old list n e) in
+  tells (Ok d) m =
+      let t = derived_text host input G pi ph d.paths d.list d.guest m in
+      let s = list_text host input G pi ph d.paths d.list d.guest m list (list_front host input G pi ph d.paths d.list d.guest m old list n e) in
       record {
         text = rw t s;
-        ran = λ room. rw (t, s, (gave_so host input G pi ph p l g m).guest);
+        ran = λ room. rw (t, s, (gave_so host input G pi ph d.paths d.list d.guest m).guest);
         guest = λ was k. rw (t, k, ← m);
       }
 
@@ -161,7 +161,7 @@ module _ (host input guest text : Bytes) (pi : input_judged input ≡ passes) (p
   result = printed_in edition1 host input (length guest)
 
   pub joined : (q : Request) → q ≡ request_in input → (w : ℕ) → w ≡ work_words → (old list : Bytes) → length old ≡ program_ceiling
-      → length list ≡ length old → (a : Answer) → meaning a ≡ derive edition1 host q w (length old) (length guest)
+      → length list ≡ length old → (a : Result lent.Derived Refusal) → meaning a ≡ derive edition1 host q w (length old) (length guest)
       → list ≡ derive_list edition1 host q w (length guest) old → (left : Bytes) → left ≡ derive_guest edition1 host q w (length old) guest
       → (ran : Ran) (said : Bytes) → ran ≡ ran_of a (min (length (text_of a list)) (length text)) → said ≡ lay text 0 (text_of a list)
       → length (text_of a list) ≤ length list + 64

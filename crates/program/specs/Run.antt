@@ -1,22 +1,23 @@
 -- The program's outcome where its guest may have any room, what is printed of it, and what a call answers. With the program's own
 -- room they are those of rules: Program.
-use Rattle.std.specs.Prelude.{◌≡◌, refl, List, ℕ, ◌+◌, ◌≤◌, min, length, take}
+use Rattle.std.specs.Prelude.{◌≡◌, refl, List, ℕ, ◌+◌, ◌≤◌, min, length, take, Some, None, Result, Ok, Err}
 use Rattle.std.proofs.Common.{sym, ap, ◌∙◌, zero-add, arith}
 use Rattle.std.proofs.Math.Option.{none, some}
 use Rattle.rules.specs.Ceilings.{program_ceiling, work_words}
 use Rattle.rules.specs.Octets.{Bytes, part, put, lay}
-use Rattle.rules.specs.Outcome.{Outcome, ◌then◌}
+use Rattle.rules.specs.Outcome.{Outcome, Verdict, passes, refuses, ◌then◌}
 use Rattle.rules.specs.References.{Rules, edition1}
 use Rattle.rules.specs.Derivation.{derive}
 use Rattle.rules.specs.Derivation as derivation
 use Rattle.rules.specs.Program.{input_judged, host_judged, request_in, Printed, printed, printed_refusal, program_outcome, program}
 use Rattle.rules.proofs.Laws.Octets.{take_put, lay_put}
 use Rattle.printed.specs.Text.{answer_text}
-use Rattle.derive.specs.Answers.{number_of, place_of}
-use Rattle.derive.specs.declared.Answer.{Answer}
-use Rattle.derive.specs.declared.Answer.TheVariants as answer
+use Rattle.derive.specs.Answers as derived
+use Rattle.derive.specs.declared.Derived.{Derived}
+use Rattle.derive.specs.declared.Refusal as derivation_refusal
 use Rattle.program.specs.declared.Ran.{Ran}
-use Rattle.program.specs.declared.Ran.TheVariants.{Derived, Refused}
+use Rattle.program.specs.declared.Refusal.{Refusal}
+use Rattle.program.specs.declared.Refusal.TheVariants.{Input, Host, Derivation}
 
 -- room for every text: a list, and two lines with a number each
 abbrev pub text_room : ℕ
@@ -36,8 +37,8 @@ printed_for host input guest = printed_in edition1 host input (length guest)
 -- what is answered of it, the text being laid into a buffer with this room
 unfoldable pub answered : Printed → (room : ℕ) → Ran
 answered p room = elim p.guest [
-  | none ↦ Refused (min (length p.text) room)
-  | some g ↦ Derived (min (length p.text) room) (length g)
+  | none ↦ record { text = min (length p.text) room; guest = None }
+  | some g ↦ record { text = min (length p.text) room; guest = Some (length g) }
 ]
 
 -- what the lent guest becomes
@@ -65,14 +66,38 @@ pub guest_whole : (p : Printed) (old g : Bytes) → p.guest ≡ some g → take 
 unfolding guest_left
 guest_whole p old g e = rw e (front old g)
 
+-- ---- refusals
+
+abbrev pub number_of : Refusal → ℕ
+number_of (Input fault) = 41
+number_of Host = 3
+number_of (Derivation r) = derived.number_of r
+
+abbrev pub place_of : Refusal → ℕ
+place_of (Input fault) = fault.at
+place_of Host = 0
+place_of (Derivation r) = derived.place_of r
+
+-- the paper's number and place
+abbrev pub meaning : Result (Unit {0}) Refusal → Verdict
+meaning (Ok u) = passes
+meaning (Err r) = refuses (number_of r) (place_of r)
+
+-- a refusal in print, and what is told of it, the text taking n bytes
+abbrev pub refused_text : Refusal → Bytes
+refused_text r = printed_refusal (number_of r) (place_of r)
+
+abbrev pub refused_ran : (n : ℕ) → Ran
+refused_ran n = record { text = n; guest = None }
+
 -- ---- the derivation's answer in print
 
 -- the text, where the list's bytes stand at the front of `list`
-abbrev pub text_of : Answer → (list : Bytes) → Bytes
-text_of (answer.Derived paths len guest) list = answer_text paths (part list 0 len) guest
-text_of (answer.Refused r) list = printed_refusal (number_of r) (place_of r)
+abbrev pub text_of : Result Derived derivation_refusal.Refusal → (list : Bytes) → Bytes
+text_of (Ok d) list = answer_text d.paths (part list 0 d.list) d.guest
+text_of (Err r) list = refused_text (Derivation r)
 
 -- what is told of it, the text taking n bytes
-abbrev pub ran_of : Answer → (n : ℕ) → Ran
-ran_of (answer.Derived paths len guest) n = Derived n guest
-ran_of (answer.Refused r) n = Refused n
+abbrev pub ran_of : Result Derived derivation_refusal.Refusal → (n : ℕ) → Ran
+ran_of (Ok d) n = record { text = n; guest = Some d.guest }
+ran_of (Err r) n = refused_ran n

@@ -1,6 +1,7 @@
 -- The parts of the reader joined: what the header, the walk and the passes promise gives what `read` promises.
-use mathlib.Core.Path.{◌≡◌, sym, ap, ◌∙◌, subst}
-use mathlib.Core.List.{List, []}
+use mathlib.Core.Bool.{true, false}
+use mathlib.Core.Path.{◌≡◌, refl, sym, ap, ◌∙◌, subst}
+use mathlib.Core.List.{List, [], ◌++◌}
 use Prim.Native.Nat.{ℕ, ◌+◌, ◌-◌, ◌≤◌, ◌<◌}
 use native.Mathlib.Omega.{arith}
 use lib.ListN.{length, take, drop, length-take}
@@ -13,6 +14,7 @@ use Rattle.rules.specs.Events.{shape_judged}
 use Rattle.rules.specs.Tree.{doubled_judged, words_judged, shared_judged}
 use Rattle.rules.specs.Reader.{tree_read, events_read, blob_judged, space_judged, read, rows_of, space_of, table_of, read_work}
 use Rattle.rules.proofs.Laws.Verdicts.{then_passes, passes_then, then_then, then_refuses}
+use Rattle.rules.proofs.Laws.Octets.{lay_front, length_zeros}
 use Rattle.rules.proofs.Laws.Blob.{Inside, header_inside}
 use Rattle.rules.specs.Laws.Reader.{starts_of}
 use Rattle.rules.proofs.Laws.Reader.{starts_length, table_fits, space_length, space_space, space_clear}
@@ -21,13 +23,12 @@ use Rattle.header.specs.declared.Parts.{Parts}
 use Rattle.header.specs.declared.Refusal.{Refusal as HeaderRefusal}
 use Rattle.header.specs.Header.{Found, refused as headed}
 use Rattle.shape.specs.declared.Refusal.{Refusal as ShapeRefusal}
-use Rattle.shape.specs.declared.Answer.{Answer as ShapeAnswer}
-use Rattle.shape.specs.declared.Answer.TheVariants as walk
 use Rattle.shape.specs.Answers.{refused as shaped, meaning as walkMeaning}
 use Rattle.shape.specs.Shape.{Leaves as WalkLeaves, Shaped}
 use Rattle.reader.specs.declared.Refusal.{Refusal}
-use Rattle.reader.specs.declared.Answer.{Answer}
-use Rattle.reader.specs.declared.Answer.TheVariants.{Nodes, Refused}
+use Rattle.std.specs.Prelude.{Result, Ok, Err}
+use Rattle.std.specs.Result.{is_err}
+use Rattle.rules.proofs.Laws.Tests.{never}
 use Rattle.reader.specs.Answers.{number_of, place_of, refused, meaning}
 use Rattle.reader.specs.Whole.{block_tree, Leaves, Tabled, Paired, Judged}
 
@@ -58,7 +59,7 @@ module _ {b : Bytes} {p : Parts} (h : Found b p) where
 
 -- ---- the walk, and then the pairs
 
-module _ {block : Block} {old new : List ℕ} {answer : ShapeAnswer} {count : ℕ} (s : Shaped block old new answer) (e : answer ≡ walk.Nodes count) (room : work_words ≤ length old) where
+module _ {block : Block} {old new : List ℕ} {answer : Result ℕ ShapeRefusal} {count : ℕ} (s : Shaped block old new answer) (e : answer ≡ Ok count) (room : work_words ≤ length old) where
   passed : (shape_judged block ≡ passes) × (gives (length (block_tree block)) ≡ gives count)
   passed = then_passes (shape_judged block) (gives (length (block_tree block))) count (sym s.judged ∙ ap walkMeaning e)
 
@@ -69,7 +70,7 @@ module _ {block : Block} {old new : List ℕ} {answer : ShapeAnswer} {count : �
   few_rows = omega (arith, rows_length (block_tree block), nodes_few block passed.0, table_fits)
 
   walked : new ≡ space_of (starts_of (block_tree block)) old
-  walked = subst (λ (a : ShapeAnswer). WalkLeaves a (starts_of (block_tree block)) old new) e s.table
+  walked = subst (λ (a : Result ℕ ShapeRefusal). WalkLeaves a (starts_of (block_tree block)) old new) e s.table
 
   pub tabled : Tabled block new count
   tabled = record {
@@ -79,33 +80,48 @@ module _ {block : Block} {old new : List ℕ} {answer : ShapeAnswer} {count : �
     table = walked ∙ sym (ap (space_of (starts_of (block_tree block))) walked ∙ space_space (starts_of (block_tree block)) (starts_of (block_tree block)) old few_starts few_starts);
   }
 
-  leaves_on : (a : Answer) (last : List ℕ) → Leaves a (rows_of (block_tree block)) new last → Leaves a (rows_of (block_tree block)) old last
-  leaves_on (Nodes n) last l = l ∙ ap (space_of (rows_of (block_tree block))) walked ∙ space_space (rows_of (block_tree block)) (starts_of (block_tree block)) old few_rows few_starts
-  leaves_on (Refused f) last l = l ∙ ap (space_of []) walked ∙ space_space [] (starts_of (block_tree block)) old (omega arith) few_starts
+  leaves_on : (a : Result ℕ Refusal) (last : List ℕ) → Leaves a (rows_of (block_tree block)) new last → Leaves a (rows_of (block_tree block)) old last
+  leaves_on (Ok n) last l = l ∙ ap (space_of (rows_of (block_tree block))) walked ∙ space_space (rows_of (block_tree block)) (starts_of (block_tree block)) old few_rows few_starts
+  leaves_on (Err f) last l = l ∙ ap (space_of []) walked ∙ space_space [] (starts_of (block_tree block)) old (omega arith) few_starts
 
-  pub paired : {a : Answer} {last : List ℕ} → Paired block new last a → Judged block old last a
+  pub paired : {a : Result ℕ Refusal} {last : List ℕ} → Paired block new last a → Judged block old last a
   paired {a} {last} q = record {
     judged = q.judged ∙ sym (passes_then (shape_judged block) (doubled_judged (block_tree block) then words_judged (block_tree block) then shared_judged (block_tree block) then gives (length (block_tree block))) passed.0);
     table = leaves_on a last q.table;
   }
 
 -- the walk refuses
-pub shape_refused : {block : Block} {old new : List ℕ} {answer : ShapeAnswer} {g : ShapeRefusal} (f : Refusal) → refused {A = ℕ} f ≡ shaped {A = ℕ} g → answer ≡ walk.Refused g
-    → Shaped block old new answer → Judged block old new (Refused f)
+pub shape_refused : {block : Block} {old new : List ℕ} {answer : Result ℕ ShapeRefusal} {g : ShapeRefusal} (f : Refusal) → refused {A = ℕ} f ≡ shaped {A = ℕ} g → answer ≡ Err g
+    → Shaped block old new answer → Judged block old new (Err f)
 shape_refused {block} {old} {new} {answer} {g} f q e s =
     let v : shape_judged block ≡ refused f = then_refuses (shape_judged block) (length (block_tree block)) (number_of f) (place_of f) (q ∙ ap walkMeaning (sym e) ∙ s.judged) in
     record {
       judged =
           sym
           (ap (λ (o : Verdict). o then doubled_judged (block_tree block) then words_judged (block_tree block) then shared_judged (block_tree block) then gives (length (block_tree block))) v);
-      table = subst (λ (a : ShapeAnswer). WalkLeaves a (starts_of (block_tree block)) old new) e s.table;
+      table = subst (λ (a : Result ℕ ShapeRefusal). WalkLeaves a (starts_of (block_tree block)) old new) e s.table;
     }
 
 -- ---- the whole
 
+-- a refusal, and a count, by what `is_err` says
+pub is_refused : {X : Type 0} (a : Result ℕ Refusal) → is_err a ≡ true → ((f : Refusal) → a ≡ Err f → X) → X
+is_refused (Ok count) e h = never false e refl
+is_refused (Err f) e h = h f refl
+
+pub is_counted : {X : Type 0} (a : Result ℕ Refusal) → is_err a ≡ false → ((count : ℕ) → a ≡ Ok count → X) → X
+is_counted (Ok count) e h = h count refl
+is_counted (Err f) e h = never true refl e
+
 pub no_space : (b : Bytes) (work : List ℕ) → length work < work_words → (◌≡◌ {A = Outcome ℕ} (refuses 40 0) (read b (length work))) × (work ≡ read_work b work)
 unfolding read space_judged read_work
 no_space b work h = (rw (lt-ltb (length work) work_words h), rw (lt-ltb (length work) work_words h))
+
+-- the work space, after its words have been filled with zeros
+pub filled : (d front : List ℕ) → work_words ≤ length d → front ≡ zeros (length (take work_words d)) → front ++ drop work_words d ≡ lay d 0 (zeros work_words)
+filled d front h e =
+    let n : length (take work_words d) ≡ work_words = omega (arith, length-take work_words d) in
+    rw (e, n) (sym (lay_front d (zeros work_words) (omega (arith, length_zeros work_words)) ∙ rw (length_zeros work_words)))
 
 -- what is read, and left, where there is space
 read_is : (b : Bytes) (words : ℕ) → work_words ≤ words → read b words ≡ (blob_judged b then gives (length (tree_read b)))
@@ -137,7 +153,7 @@ module _ (b : Bytes) (work : List ℕ) {cleared : List ℕ} (room : work_words �
         is_clear ∙ sym (work_is b work room ∙ ap (λ (o : Verdict). space_of (table_of o (tree_read b)) work) v),
       )
 
-  module _ {new : List ℕ} {answer : Answer} (head : header_judged b ≡ passes) (j : Judged (block_in b) cleared new answer) where
+  module _ {new : List ℕ} {answer : Result ℕ Refusal} (head : header_judged b ≡ passes) (j : Judged (block_in b) cleared new answer) where
     tests : Verdict
     tests = shape_judged (block_in b) then doubled_judged (tree_read b) then words_judged (tree_read b) then shared_judged (tree_read b)
 
@@ -158,23 +174,23 @@ module _ (b : Bytes) (work : List ℕ) {cleared : List ℕ} (room : work_words �
     pub read_answer : meaning answer ≡ read b (length work)
     read_answer = joined ∙ sym (read_is b (length work) room ∙ ap (λ (o : Verdict). o then gives (length (tree_read b))) judged_is)
 
-    pub read_refused : {f : Refusal} {last : List ℕ} → answer ≡ Refused f → last ≡ lay new 0 (zeros work_words) → work_words ≤ length new → last ≡ read_work b work
+    pub read_refused : {f : Refusal} {last : List ℕ} → answer ≡ Err f → last ≡ lay new 0 (zeros work_words) → work_words ≤ length new → last ≡ read_work b work
     read_refused {f} {last} e l long =
         let v : blob_judged b ≡ refused f = judged_is ∙ then_refuses tests (length (tree_read b)) (number_of f) (place_of f) (ap meaning (sym e) ∙ joined) in
         l
         ∙ space_clear new long
-        ∙ subst (λ (a : Answer). Leaves a (rows_of (block_tree (block_in b))) cleared new) e j.table
+        ∙ subst (λ (a : Result ℕ Refusal). Leaves a (rows_of (block_tree (block_in b))) cleared new) e j.table
         ∙ sym clear_again
         ∙ is_clear
         ∙ sym (work_is b work room ∙ ap (λ (o : Verdict). space_of (table_of o (tree_read b)) work) v)
 
-    pub read_nodes : {count : ℕ} → answer ≡ Nodes count → new ≡ read_work b work
+    pub read_nodes : {count : ℕ} → answer ≡ Ok count → new ≡ read_work b work
     unfolding tree_read events_read
     read_nodes {count} e =
         let p = then_passes tests (gives (length (tree_read b))) count (sym joined ∙ ap meaning e) in
         let v : blob_judged b ≡ passes = judged_is ∙ p.0 in
         let few : length (rows_of (tree_read b)) ≤ work_words = omega (arith, rows_length (tree_read b), (read_table b v).few, table_fits) in
-        subst (λ (a : Answer). Leaves a (rows_of (block_tree (block_in b))) cleared new) e j.table
+        subst (λ (a : Result ℕ Refusal). Leaves a (rows_of (block_tree (block_in b))) cleared new) e j.table
         ∙ ap (space_of (rows_of (tree_read b))) is_clear
         ∙ space_space (rows_of (tree_read b)) [] work few (omega arith)
         ∙ sym (work_is b work room ∙ ap (λ (o : Verdict). space_of (table_of o (tree_read b)) work) v)

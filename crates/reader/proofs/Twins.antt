@@ -14,13 +14,11 @@ use Rattle.rules.specs.Laws.Reader.{start_of, starts_of}
 use Rattle.rules.proofs.Laws.Reader.{starts_length, table_fits, space_get}
 use Rattle.rules.proofs.Laws.Table.{nodes_few}
 use Rattle.rules.specs.Laws.Constants.{NODE_WORDS}
-use Rattle.doubled.specs.declared.Found.{Found}
-use Rattle.doubled.specs.declared.Found.TheVariants.{Nothing, At}
 use Rattle.doubled.specs.Passes.{verdict}
 use Rattle.doubled.specs.Siblings.{Table}
 use Rattle.passes.specs.Rows.{rows_from}
 use Rattle.reader.specs.declared.Refusal.TheVariants.{Doubled, Cells, Shared}
-use Rattle.reader.specs.declared.Answer.TheVariants.{Nodes, Refused}
+use Rattle.std.specs.Prelude.{Option, Some, None, Ok, Err}
 use Rattle.reader.specs.Whole.{block_tree, Tabled, Paired}
 use Rattle.reader.proofs.Rows.{Rest, shared_table}
 
@@ -61,22 +59,22 @@ module _ {b : Block} {work : List ℕ} {count : ℕ} (t : Tabled b work count) w
   -- ---- the first that refuses, or none
 
   -- the first pass leaves the work space as it was
-  module _ {f : Found} {mid : List ℕ} (doubled : verdict 10 b.place f ≡ doubled_judged (block_tree b)) (kept : mid ≡ work) where
-    pub is_doubled : {at : ℕ} → f ≡ At at → Paired b work mid (Refused (Doubled (b.place + at)))
+  module _ {f : Option ℕ} {mid : List ℕ} (doubled : verdict 10 b.place f ≡ doubled_judged (block_tree b)) (kept : mid ≡ work) where
+    pub is_doubled : {at : ℕ} → f ≡ Some at → Paired b work mid (Err (Doubled (b.place + at)))
     is_doubled {at} e =
         let v : doubled_judged (block_tree b) ≡ refuses 10 (b.place + at) = sym doubled ∙ ap (verdict 10 b.place) e in
         record { judged = rw v; table = ap (space_of []) kept }
 
-    module _ (none₁ : f ≡ Nothing) (g : Found) (words : verdict 11 b.place g ≡ words_judged (block_tree b)) where
+    module _ (none₁ : f ≡ None) (g : Option ℕ) (words : verdict 11 b.place g ≡ words_judged (block_tree b)) where
       v₁ : doubled_judged (block_tree b) ≡ passes
       v₁ = sym doubled ∙ ap (verdict 10 b.place) none₁
 
-      pub is-cells : {at : ℕ} → g ≡ At at → Paired b work mid (Refused (Cells (b.place + at)))
+      pub is-cells : {at : ℕ} → g ≡ Some at → Paired b work mid (Err (Cells (b.place + at)))
       is-cells {at} e =
           let v : words_judged (block_tree b) ≡ refuses 11 (b.place + at) = sym words ∙ ap (verdict 11 b.place) e in
           record { judged = rw (v₁, v); table = ap (space_of []) kept }
 
-      module _ (none₂ : g ≡ Nothing) (h : Found) {new : List ℕ} (rows : (verdict 12 b.place h, new) ≡ rows_from mid 0 (block_tree b)) where
+      module _ (none₂ : g ≡ None) (h : Option ℕ) {new : List ℕ} (rows : (verdict 12 b.place h, new) ≡ rows_from mid 0 (block_tree b)) where
         v₂ : words_judged (block_tree b) ≡ passes
         v₂ = sym words ∙ ap (verdict 11 b.place) none₂
 
@@ -85,12 +83,12 @@ module _ {b : Block} {work : List ℕ} {count : ℕ} (t : Tabled b work count) w
             let s = shared_table work t.room (block_tree b) work (omega (arith, few, table_fits)) t.table in
             subst (λ (p : Verdict × List ℕ). (p.0 ≡ shared_judged (block_tree b)) × Rest work (rows_of (block_tree b)) p.0 p.1) (sym (rows ∙ ap (λ (x : List ℕ). rows_from x 0 (block_tree b)) kept)) s
 
-        pub is_shared : {at : ℕ} → h ≡ At at → Paired b work new (Refused (Shared (b.place + at)))
+        pub is_shared : {at : ℕ} → h ≡ Some at → Paired b work new (Err (Shared (b.place + at)))
         is_shared {at} e =
             let v : shared_judged (block_tree b) ≡ refuses 12 (b.place + at) = sym shared.0 ∙ ap (verdict 12 b.place) e in
-            record { judged = rw (v₁, v₂, v); table = subst (λ (x : Found). Rest work (rows_of (block_tree b)) (verdict 12 b.place x) new) e shared.1 }
+            record { judged = rw (v₁, v₂, v); table = subst (λ (x : Option ℕ). Rest work (rows_of (block_tree b)) (verdict 12 b.place x) new) e shared.1 }
 
-        pub is_none : h ≡ Nothing → Paired b work new (Nodes count)
+        pub is_none : h ≡ None → Paired b work new (Ok count)
         is_none e =
             let v : shared_judged (block_tree b) ≡ passes = sym shared.0 ∙ ap (verdict 12 b.place) e in
-            record { judged = rw (v₁, v₂, v, t.counted); table = subst (λ (x : Found). Rest work (rows_of (block_tree b)) (verdict 12 b.place x) new) e shared.1 }
+            record { judged = rw (v₁, v₂, v, t.counted); table = subst (λ (x : Option ℕ). Rest work (rows_of (block_tree b)) (verdict 12 b.place x) new) e shared.1 }

@@ -1,5 +1,5 @@
 -- Two answers that say the same are the same: the meaning of an answer gives it back. So is a refusal that a caller carries inside.
-use Rattle.std.specs.Prelude.{if◌then◌else◌}
+use Rattle.std.specs.Prelude.{Result, Ok, Err, if◌then◌else◌}
 use mathlib.Core.Path.{◌≡◌, refl, sym, ap, ◌∙◌}
 use mathlib.Core.Bool.{true}
 use Prim.Native.Nat.{ℕ}
@@ -9,8 +9,6 @@ use Rattle.rules.specs.Outcome.{Outcome, gives, refuses}
 use Rattle.rules.specs.Reader.{read}
 use Rattle.reader.specs.declared.Refusal.{Refusal}
 use Rattle.reader.specs.declared.Refusal.TheVariants.{NoSpace, Short, Magic, Total, Version, Layout, Shape, Name, Deep, Many, Doubled, Cells, Shared}
-use Rattle.reader.specs.declared.Answer.{Answer}
-use Rattle.reader.specs.declared.Answer.TheVariants.{Nodes, Refused}
 use Rattle.reader.specs.Answers.{number_of, place_of, inside_number, meaning}
 
 unfoldable pub refusal_of : (number place : ℕ) → Refusal
@@ -51,18 +49,18 @@ back (Doubled at) = record { own = refl; carried = refl; few = refl }
 back (Cells at) = record { own = refl; carried = refl; few = refl }
 back (Shared at) = record { own = refl; carried = refl; few = refl }
 
-answer_of : Outcome ℕ → Answer
-answer_of (gives count) = Nodes count
-answer_of (refuses number place) = Refused (refusal_of number place)
+answer_of : Outcome ℕ → Result ℕ Refusal
+answer_of (gives count) = Ok count
+answer_of (refuses number place) = Err (refusal_of number place)
 
-answer_back : (a : Answer) → answer_of (meaning a) ≡ a
+answer_back : (a : Result ℕ Refusal) → answer_of (meaning a) ≡ a
 unfolding answer_of
-answer_back (Nodes count) = refl
-answer_back (Refused r) = ap Refused (back r).own
+answer_back (Ok count) = refl
+answer_back (Err r) = ap Err (back r).own
 
-pub meaning_injective : (a c : Answer) → meaning a ≡ meaning c → a ≡ c
+pub meaning_injective : (a c : Result ℕ Refusal) → meaning a ≡ meaning c → a ≡ c
 meaning_injective a c e = sym (answer_back a) ∙ ap answer_of e ∙ answer_back c
 
 -- any two results that the reader's promise allows are equal
-pub one_answer : (b : Bytes) (words : ℕ) (a c : Answer) → meaning a ≡ read b words → meaning c ≡ read b words → a ≡ c
+pub one_answer : (b : Bytes) (words : ℕ) (a c : Result ℕ Refusal) → meaning a ≡ read b words → meaning c ≡ read b words → a ≡ c
 one_answer b words a c p q = meaning_injective a c (p ∙ sym q)

@@ -1,10 +1,8 @@
 -- The paper's number and place for each answer.
-use Rattle.std.specs.Prelude.{ℕ, eqb, if◌then◌else◌}
+use Rattle.std.specs.Prelude.{ℕ, Result, Ok, Err, eqb, if◌then◌else◌}
 use Rattle.rules.specs.Outcome.{Outcome, gives, refuses}
 use Rattle.reader.specs.declared.Refusal.{Refusal}
 use Rattle.reader.specs.declared.Refusal.TheVariants.{NoSpace, Short, Magic, Total, Version, Layout, Shape, Name, Deep, Many, Doubled, Cells, Shared}
-use Rattle.reader.specs.declared.Answer.{Answer}
-use Rattle.reader.specs.declared.Answer.TheVariants.{Nodes, Refused}
 
 abbrev pub number_of : Refusal → ℕ
 number_of NoSpace = 40
@@ -39,9 +37,9 @@ place_of (Shared at) = at
 abbrev pub refused : {A : Type 0} → Refusal → Outcome A
 refused r = refuses (number_of r) (place_of r)
 
-abbrev pub meaning : Answer → Outcome ℕ
-meaning (Nodes count) = gives count
-meaning (Refused refusal) = refused refusal
+abbrev pub meaning : Result ℕ Refusal → Outcome ℕ
+meaning (Ok count) = gives count
+meaning (Err refusal) = refused refusal
 
 -- The number of a refusal that callers carry inside their own: 1 to 12. 40 is the caller's own and is not carried; it would have the
 -- number 0, which no refusal has.

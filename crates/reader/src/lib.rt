@@ -14,8 +14,8 @@ ghost use Rattle.shape.specs.Answers.{refused as shaped};
 ghost use Rattle.reader.specs.Answers.{refused, meaning, number_of, place_of};
 ghost use Rattle.reader.specs.Whole.{Judged};
 
-use header::{Head, Parts};
-use rules::WORK_WORDS;
+use header::Parts;
+use rules::{Block, WORK_WORDS};
 
 // Why a blob is refused, in the order in which it is judged. `at` is the blob offset of the first offending token.
 #[derive(Clone, Copy)]
@@ -48,13 +48,6 @@ pub enum Refusal {
     Shared { at: usize },
 }
 
-// How many nodes the blob has, or why it is refused.
-#[derive(Clone, Copy)]
-pub enum Answer {
-    Nodes(usize),
-    Refused(Refusal),
-}
-
 // A refusal as the paper has it.
 #[derive(Clone, Copy)]
 pub struct Numbered {
@@ -62,103 +55,92 @@ pub struct Numbered {
     pub place: usize,
 }
 
-fn placed(number: u64, place: usize) -> Numbered
-    ensures { (result.number ≡ number) × (result.place ≡ place) }
-{
-    Numbered { number, place }
-}
-
 // The number and the place of a refusal: 40 or 1 to 5, and 0; or 6 to 12, and the offset.
 pub fn told(refusal: Refusal) -> Numbered
     ensures { (result.number ≡ number_of refusal) × (result.place ≡ place_of refusal) }
 {
-    match refusal {
-        Refusal::NoSpace => placed(40, 0),
-        Refusal::Short => placed(1, 0),
-        Refusal::Magic => placed(2, 0),
-        Refusal::Total => placed(3, 0),
-        Refusal::Version => placed(4, 0),
-        Refusal::Layout => placed(5, 0),
-        Refusal::Shape { at } => placed(6, at),
-        Refusal::Name { at } => placed(7, at),
-        Refusal::Deep { at } => placed(8, at),
-        Refusal::Many { at } => placed(9, at),
-        Refusal::Doubled { at } => placed(10, at),
-        Refusal::Cells { at } => placed(11, at),
-        Refusal::Shared { at } => placed(12, at),
-    }
+    let (number, place) = match refusal {
+        Refusal::NoSpace => (40, 0),
+        Refusal::Short => (1, 0),
+        Refusal::Magic => (2, 0),
+        Refusal::Total => (3, 0),
+        Refusal::Version => (4, 0),
+        Refusal::Layout => (5, 0),
+        Refusal::Shape { at } => (6, at),
+        Refusal::Name { at } => (7, at),
+        Refusal::Deep { at } => (8, at),
+        Refusal::Many { at } => (9, at),
+        Refusal::Doubled { at } => (10, at),
+        Refusal::Cells { at } => (11, at),
+        Refusal::Shared { at } => (12, at),
+    };
+    Numbered { number, place }
 }
 
 // The header's refusal as the reader's.
-fn by_header(refusal: header::Refusal) -> Refusal
-    ensures { refused {A = Unit {0}} result ≡ headed {A = Unit {0}} refusal }
-{
-    match refusal {
-        header::Refusal::Short => Refusal::Short,
-        header::Refusal::Magic => Refusal::Magic,
-        header::Refusal::Total => Refusal::Total,
-        header::Refusal::Version => Refusal::Version,
-        header::Refusal::Layout => Refusal::Layout,
+impl From<header::Refusal> for Refusal {
+    ghost from_gives = { λ h r. refused {A = Unit {0}} r ≡ headed {A = Unit {0}} h };
+
+    fn from(refusal: header::Refusal) -> Refusal {
+        match refusal {
+            header::Refusal::Short => Refusal::Short,
+            header::Refusal::Magic => Refusal::Magic,
+            header::Refusal::Total => Refusal::Total,
+            header::Refusal::Version => Refusal::Version,
+            header::Refusal::Layout => Refusal::Layout,
+        }
     }
 }
 
 // The walk's refusal as the reader's.
-fn by_shape(refusal: shape::Refusal) -> Refusal
-    ensures { refused {A = ℕ} result ≡ shaped {A = ℕ} refusal }
-{
-    match refusal {
-        shape::Refusal::Shape { at } => Refusal::Shape { at },
-        shape::Refusal::Name { at } => Refusal::Name { at },
-        shape::Refusal::Deep { at } => Refusal::Deep { at },
-        shape::Refusal::Many { at } => Refusal::Many { at },
+impl From<shape::Refusal> for Refusal {
+    ghost from_gives = { λ s r. refused {A = ℕ} r ≡ shaped {A = ℕ} s };
+
+    fn from(refusal: shape::Refusal) -> Refusal {
+        match refusal {
+            shape::Refusal::Shape { at } => Refusal::Shape { at },
+            shape::Refusal::Name { at } => Refusal::Name { at },
+            shape::Refusal::Deep { at } => Refusal::Deep { at },
+            shape::Refusal::Many { at } => Refusal::Many { at },
+        }
     }
 }
 
 // Judges the blocks of a blob whose header passes. Each is handed on as its own part, so that nothing else can be read through
 // it. The work space is zero before; after a refusal what it holds is of no use.
-fn blocks(blob: &[u8], parts: Parts, work: &mut [u32]) -> Answer
+fn blocks(blob: &[u8], parts: Parts, work: &mut [u32]) -> Result<usize, Refusal>
     requires found { Found blob.now parts }
     requires work_words_in_bounds { work_words ≤ length work.old }
     requires work_value { work.old ≡ space_of [] work.old }
     ensures { Judged (block_in blob.now) work.old work.new result }
 {
-    let place = parts.structure;
-    let end = place + parts.structure_size;
-    let from = parts.strings;
-    let to = from + parts.strings_size;
-    let structure = &blob[place..end];
-    let strings = &blob[from..to];
-    match shape::judge(structure, strings, place, work) {
-        shape::Answer::Refused(refusal) => Answer::Refused(by_shape(refusal)),
-        shape::Answer::Nodes(count) => pairs::judge(structure, strings, place, count, work),
-    }
+    let block = Block {
+        structure: &blob[parts.structure..parts.structure + parts.structure_size],
+        strings: &blob[parts.strings..parts.strings + parts.strings_size],
+        place: parts.structure,
+    };
+    let count = shape::judge(&block, work)?;
+    pairs::judge(&block, count, work)
 }
 
 // Reads the blob that begins with the bytes lent, and leaves a table of its nodes in the work space, four words a node in blob
 // order: the offset of its BEGIN, its parent's number (the root's is 0), 1 or 0 for a phandle, the phandle or 0. The other words of
 // the first 16,384 are zero, and all of them after a refusal; later words stay. Nothing is asked of the caller.
 //
-// Answers
-//   Nodes, how many nodes there are;
-//   Refused(NoSpace), where fewer than 16,384 words are lent: then none is touched;
-//   Refused, with the first of refusals 1 to 12.
-pub fn read(blob: &[u8], work: &mut [u32]) -> Answer
+// Answers how many nodes there are; NoSpace, where fewer than 16,384 words are lent: then none is touched; or the first of
+// refusals 1 to 12.
+pub fn read(blob: &[u8], work: &mut [u32]) -> Result<usize, Refusal>
     ensures result_value { meaning result ≡ read blob.now (length work.old) }
     ensures work_after { work.new ≡ read_work blob.now work.old }
 {
     if work.len() < WORK_WORDS {
-        return Answer::Refused(Refusal::NoSpace);
+        return Err(Refusal::NoSpace);
     }
-    octets::clear(work, WORK_WORDS);
-    match header::judge(blob) {
-        Head::Bad(refusal) => Answer::Refused(by_header(refusal)),
-        Head::Good(parts) => {
-            let answer = blocks(blob, parts, work);
-            let Answer::Nodes(count) = answer else {
-                octets::clear(work, WORK_WORDS);
-                return answer;
-            };
-            Answer::Nodes(count)
-        }
+    work[..WORK_WORDS].fill(0);
+    let parts = header::judge(blob)?;
+    let answer = blocks(blob, parts, work);
+    if answer.is_err() {
+        work[..WORK_WORDS].fill(0);
     }
+    answer
 }

@@ -3,8 +3,8 @@
 // the label and the blob. tools/reader_cases.py makes the cases and the lines that are expected.
 #![tactic(auto)]
 
-use cases::{within, within_words};
-use reader::Answer;
+use cases::within;
+use reader::Refusal;
 use std::io;
 use std::io::{Read, Write};
 use streams::{print_decimal, print_hex, read_full};
@@ -40,13 +40,13 @@ fn head_of(s: &[u8; 16]) -> Head {
     }
 }
 
-fn print_answer<W: Write>(out: &mut W, answer: Answer) -> io::Result<()> {
+fn print_answer<W: Write>(out: &mut W, answer: Result<usize, Refusal>) -> io::Result<()> {
     match answer {
-        Answer::Nodes(count) => {
+        Ok(count) => {
             out.write_all(b": nodes ")?;
             print_decimal(out, count as u64)
         }
-        Answer::Refused(refusal) => {
+        Err(refusal) => {
             let t = reader::told(refusal);
             out.write_all(b": refused ")?;
             print_decimal(out, t.number)?;
@@ -57,7 +57,7 @@ fn print_answer<W: Write>(out: &mut W, answer: Answer) -> io::Result<()> {
 }
 
 fn run<W: Write>(out: &mut W, blob: &[u8], work: &mut [u32]) -> io::Result<()> {
-    cases::fill_words(work, FILL);
+    cases::fill(work, FILL);
     print_answer(out, reader::read(blob, work))?;
     out.write_all(b", work ")?;
     print_hex(out, cases::digest_words(work) as u64, 8)?;
@@ -89,7 +89,7 @@ fn lent<W: Write>(
     words: usize,
 ) -> io::Result<()> {
     let bytes = octets::part(blob, 0, len);
-    let n = within_words(words, work);
+    let n = within(words, work);
     run(out, bytes, &mut work[..n])
 }
 

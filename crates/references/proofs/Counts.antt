@@ -3,6 +3,7 @@ use mathlib.Core.Path.{◌≡◌, refl, sym, ap, ◌∙◌}
 use mathlib.Core.Bool.{true, false}
 use mathlib.Core.List.{List, [], ◌∷◌}
 use mathlib.Core.Option.{Option, none, some}
+use Rattle.std.specs.Prelude as lent
 use Prim.Native.Nat.{ℕ, ◌≤◌}
 use Prim.Native.String.{String}
 use native.Mathlib.Omega.{arith}
@@ -15,7 +16,6 @@ use Rattle.rules.specs.References.{word_named}
 use Rattle.rules.specs.Laws.Events.{events_at}
 use Rattle.rules.specs.Laws.Tabled.{props_at, count_named}
 use Rattle.tokens.specs.declared.Property as next
-use Rattle.tokens.specs.declared.Property.TheVariants.{Here, Missing}
 use Rattle.tokens.specs.Properties.{behind_at, property_at}
 use Rattle.tokens.proofs.Properties.{behind_props, props_none, props_here}
 use Rattle.references.specs.Rows.{is_named}
@@ -54,13 +54,13 @@ module _ (b : Block) (o : Option String) where
   pub count_first : (begin at : ℕ) → at ≡ behind_at b.structure begin → count_named o (props_at b begin) ≡ count_at b o at
   count_first begin at e = ap (count_named o) (behind_props b begin) ∙ ap (count_at b o) (sym e)
 
-  module _ (at : ℕ) (i : at ≤ length b.structure) (r : next.Property) (e : r ≡ property_at b.structure at) where
-    pub count_end : r ≡ Missing → count_at b o at ≡ 0
+  module _ (at : ℕ) (i : at ≤ length b.structure) (r : lent.Option next.Property) (e : r ≡ property_at b.structure at) where
+    pub count_end : r ≡ lent.None → count_at b o at ≡ 0
     count_end f = ap (count_named o) (props_none b at i r e f) ∙ count_none o
 
-    module _ (here len name value next : ℕ) (f : r ≡ Here here len name value next) where
-      pub count-value : is_named o (string_at b.strings name) ≡ true → count_at b o at ≡ word_at (part b.structure value len) 0
-      count-value g = ap (count_named o) (props_here b at i r e here len name value next f) ∙ count_hit _ _ o g
+    module _ (p : next.Property) (f : r ≡ lent.Some p) where
+      pub count-value : is_named o (string_at b.strings p.name) ≡ true → count_at b o at ≡ word_at (part b.structure p.value p.len) 0
+      count-value g = ap (count_named o) (props_here b at i r e p f) ∙ count_hit _ _ o g
 
-      pub count-on : is_named o (string_at b.strings name) ≡ false → count_at b o at ≡ count_at b o next
-      count-on g = ap (count_named o) (props_here b at i r e here len name value next f) ∙ count_miss _ _ o g
+      pub count-on : is_named o (string_at b.strings p.name) ≡ false → count_at b o at ≡ count_at b o p.next
+      count-on g = ap (count_named o) (props_here b at i r e p f) ∙ count_miss _ _ o g

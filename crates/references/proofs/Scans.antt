@@ -16,8 +16,8 @@ use Rattle.rules.proofs.Laws.Tests.{by_test}
 use Rattle.rules.proofs.Laws.References.{by_option, scan_end, scan_unknown, scan_known, scan_short}
 use Rattle.rules.specs.Laws.Tabled.{tree_in, look_in, props_at, begin_of, count_named}
 use Rattle.rules.proofs.Laws.Tabled.{node_in_lem, look_small}
-use Rattle.references.specs.declared.scan.Next.{Next}
-use Rattle.references.specs.declared.scan.Next.TheVariants.{End}
+use Rattle.std.specs.Prelude as lent
+use Rattle.references.specs.declared.scan.Reference as scan
 use Rattle.references.specs.Scan.{scan_at, refers_at, told, Ahead, scan_in, Scanned}
 
 module _ (look : ℕ → Option ℕ) (cells : ℕ → ℕ) (v : Bytes) (n : ℕ) where
@@ -78,18 +78,18 @@ module _ (b : Block) (ws : List ℕ) (count : ℕ) (o : Option String) (v : Byte
   abbrev cells_in : ℕ → ℕ
   cells_in m = count_named o (node (tree_in b ws count) m).props
 
-  pub scanned_odd : (i : ℕ) → (length v % 4 ≡ 0 → ⊥) → Scanned b ws count o v i End
+  pub scanned_odd : (i : ℕ) → (length v % 4 ≡ 0 → ⊥) → Scanned b ws count o v i lent.None
   scanned_odd i h = record { list = scan_odd (look_in ws count) cells_in v i h; ahead = tt }
 
   module _ (h : length v % 4 ≡ 0) (j i : ℕ) (e : scan_in b ws count o v j ≡ scan_in b ws count o v i) where
-    pub scanned_past : length v / 4 ≤ i → Scanned b ws count o v j End
+    pub scanned_past : length v / 4 ≤ i → Scanned b ws count o v j lent.None
     scanned_past k = record { list = e ∙ scan_past (look_in ws count) cells_in v h i k; ahead = tt }
 
     pub scanned_skip : (l : i < length v / 4) → look_in ws count (word_at v (4 * i)) ≡ none → scan_in b ws count o v j ≡ scan_in b ws count o v (i + 1)
     scanned_skip l f = e ∙ scan_skip (look_in ws count) cells_in v h i l f
 
     pub scanned_here : (l : i < length v / 4) → j ≤ i → (m c : ℕ) → look_in ws count (word_at v (4 * i)) ≡ some m → c ≡ count_named o (props_at b (begin_of b.place ws m))
-        → (r : Next) → r ≡ refers_at (length v / 4) i m c → Scanned b ws count o v j r
+        → (r : lent.Option scan.Reference) → r ≡ refers_at (length v / 4) i m c → Scanned b ws count o v j r
     scanned_here l k m c f g r q =
         let d : c ≡ cells_in m = g ∙ ap (λ (x : Node). count_named o x.props) (sym (node_in_lem b ws count m (look_small ws count (word_at v (4 * i)) m f))) in
         let s : r ≡ refers_at (length v / 4) i m (cells_in m) = q ∙ ap (refers_at (length v / 4) i m) d in

@@ -1,46 +1,37 @@
--- Tables of names as bytes, and how the rule table's answer is read.
-use Rattle.std.specs.Prelude.{Bool, true, false, List, [], ◌∷◌, ◌++◌, map, ℕ, zero, suc, eqb}
-use Rattle.std.proofs.Math.Option.{Option, none, some}
+-- How the rule table's answer is read.
+use Rattle.std.proofs.Math.Option as math
+use Rattle.std.specs.Prelude.{Bool, false, List, nat_eq, Option, None, Some}
+use Rattle.std.specs.List.{list_any}
+use Rattle.std.specs.Cmp.Lexicographic.{pointwise}
+use denote.Ref.{Bor}
 use Prim.Native.String.{String}
 use Rattle.rules.specs.Octets.{Bytes, ascii, same}
-use Rattle.rules.specs.References.{Row, cell_rows}
 use Rattle.references.specs.declared.rows.Cells.{Cells}
+use Rattle.references.specs.declared.rows.Cells.TheVariants.{Clock, Reset, PowerDomain, Phy, Interrupt, Gpio, Dma, ThermalSensor, SoundDai, Mbox, Pwm}
 
--- ---- tables of names
+-- this name is one of a table's
+abbrev pub stands_in : Bytes → List (Bor Bytes) → Bool
+stands_in n ys = list_any (λ (y : Bor Bytes). pointwise nat_eq y.now n) ys
 
--- a byte in front of the first name
-abbrev pub onto : ℕ → List Bytes → List Bytes
-onto b [] = (b ∷ []) ∷ []
-onto b (s ∷ ss) = (b ∷ s) ∷ ss
+-- the cells property's name
+abbrev pub name_of : Cells → String
+name_of Clock = "#clock-cells"
+name_of Reset = "#reset-cells"
+name_of PowerDomain = "#power-domain-cells"
+name_of Phy = "#phy-cells"
+name_of Interrupt = "#interrupt-cells"
+name_of Gpio = "#gpio-cells"
+name_of Dma = "#dma-cells"
+name_of ThermalSensor = "#thermal-sensor-cells"
+name_of SoundDai = "#sound-dai-cells"
+name_of Mbox = "#mbox-cells"
+name_of Pwm = "#pwm-cells"
 
--- the names of a table, each closed by NUL
-unfoldable pub cut : Bytes → List Bytes
-cut [] = []
-cut (b ∷ bs) = elim (eqb b 0) [ true ↦ [] ∷ cut bs | false ↦ onto b (cut bs) ]
-
--- which of the names this is, counted from 0; as many as there are where it is none
-unfoldable pub place_in : Bytes → List Bytes → ℕ
-place_in n [] = zero
-place_in n (s ∷ ss) = elim (same n s) [ true ↦ zero | false ↦ suc (place_in n ss) ]
-
--- ---- the rows
-
--- the cells property that each name asks for, the names of all rows one after the other: each is a row of the code's table
-abbrev pub asked : List Row → List String
-asked [] = []
-asked (r ∷ rs) = map (λ (s : String). r.cells) r.names ++ asked rs
-
--- past the last there is none
-abbrev pub nth : List String → ℕ → Option String
-nth [] k = none
-nth (s ∷ ss) zero = some s
-nth (s ∷ ss) (suc k) = nth ss k
-
--- the cells property of a row of the code's table
-unfoldable pub meaning : Cells → Option String
-meaning c = nth (asked cell_rows) c.row
+abbrev pub meaning : Option Cells → math.Option String
+meaning (Some c) = math.some (name_of c)
+meaning None = math.none
 
 -- this name is that of a property, if there is one
-abbrev pub is_named : Option String → Bytes → Bool
-is_named none n = false
-is_named (some s) n = same (ascii s) n
+abbrev pub is_named : math.Option String → Bytes → Bool
+is_named math.none n = false
+is_named (math.some s) n = same (ascii s) n

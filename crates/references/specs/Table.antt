@@ -1,9 +1,7 @@
 -- How an answer of the node table is read.
-use Rattle.std.proofs.Math.Option.{Option, none, some}
-use Rattle.std.specs.Prelude.{ℕ}
-use Rattle.references.specs.declared.table.Node.{Node}
-use Rattle.references.specs.declared.table.Node.TheVariants.{At, Nothing}
+use Rattle.std.proofs.Math.Option as math
+use Rattle.std.specs.Prelude.{ℕ, Option, None, Some}
 
-abbrev pub found : Node → Option ℕ
-found (At i) = some i
-found Nothing = none
+abbrev pub found : Option ℕ → math.Option ℕ
+found (Some i) = math.some i
+found None = math.none

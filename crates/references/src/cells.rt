@@ -1,32 +1,24 @@
 // The cell count of a node: the value of one of its cells properties, found by a walk over the properties behind its BEGIN.
-ghost use Rattle.std.specs.Prelude.{◌≡◌, ℕ};
-ghost use Rattle.rules.specs.Blob.{block_of};
+ghost use Rattle.std.specs.Prelude.{◌≡◌};
+ghost use Rattle.rules.specs.Laws.Lent.{block_lent};
 ghost use Rattle.rules.specs.Laws.Tabled.{props_at, count_named};
 ghost use Rattle.references.specs.Rows.{meaning};
 
 use crate::rows::{Cells, is_cells};
-use tokens::Property;
+use rules::Block;
 
-// The value of this cells property of the node whose BEGIN stands at `begin`; 0 where the node has none, or no item stands
-// there.
-pub fn cells_of(structure: &[u8], strings: &[u8], begin: usize, c: Cells) -> u32
-    ensures { (place : ℕ) → result ≡ count_named (meaning c) (props_at (block_of place structure.now strings.now) begin) }
+// The value of this cells property of the node whose BEGIN stands at `begin`; 0 where the node has none, none is asked for, or no
+// item stands there.
+pub fn cells_of(block: &Block, begin: usize, cells: Option<Cells>) -> u32
+    ensures { result ≡ count_named (meaning cells) (props_at (block_lent block.now) begin) }
 {
-    let mut at = tokens::behind(structure, begin);
-    loop {
-        let Property::Here {
-            at: _,
-            len,
-            name,
-            value,
-            next,
-        } = tokens::property_at(structure, at)
-        else {
-            return 0;
-        };
-        if is_cells(c, octets::string_at(strings, name)) {
-            return octets::word(octets::part(structure, value, len), 0);
+    let mut at = tokens::behind(block.structure, begin);
+    while let Some(property) = tokens::property_at(block.structure, at) {
+        if is_cells(cells, octets::string_at(block.strings, property.name)) {
+            let value = octets::part(block.structure, property.value, property.len);
+            return octets::word(value, 0);
         }
-        at = next;
+        at = property.next;
     }
+    0
 }

@@ -1,181 +1,184 @@
 // The rule table: the names that hold references, and for a name the cells property that its targets are asked for. A name is
-// matched whole and exact, save the endings and the part that are asked for as such. The names are data: tables of names, each
-// closed by NUL, in 01's order, that one loop walks.
-ghost use Rattle.std.specs.Prelude.{◌≡◌, ◌||◌};
+// matched whole and exact, save the endings and the part that are asked for as such. The names are data, in 01's order.
+ghost use Rattle.std.specs.Prelude.{◌≡◌, Some};
 ghost use Rattle.rules.specs.Octets.{ascii, same, ends};
 ghost use Rattle.rules.specs.Tree.{among};
 ghost use Rattle.rules.specs.References.{reference_names, is_gpio, is_reference, cell_rows, cells_in};
-ghost use Rattle.references.specs.Rows.{cut, place_in, asked, nth, meaning, is_named};
+ghost use Rattle.references.specs.Rows.{stands_in, name_of, meaning, is_named};
 
-// How many names hold references, and which.
-const COUNT: usize = 23;
+// The names that hold references.
+const NAMES: [&[u8]; 23] = [
+    b"clocks",
+    b"power-domains",
+    b"phys",
+    b"resets",
+    b"dmas",
+    b"thermal-sensors",
+    b"mboxes",
+    b"assigned-clocks",
+    b"interrupt-parent",
+    b"phy-handle",
+    b"msi-parent",
+    b"memory-region",
+    b"syscon",
+    b"regmap",
+    b"iommus",
+    b"interconnects",
+    b"nvmem-cells",
+    b"sound-dai",
+    b"pinctrl-0",
+    b"pinctrl-1",
+    b"pinctrl-2",
+    b"pinctrl-3",
+    b"pinctrl-4",
+];
 
-const NAMES: [u8; 237] = *b"\
-    clocks\0\
-    power-domains\0\
-    phys\0\
-    resets\0\
-    dmas\0\
-    thermal-sensors\0\
-    mboxes\0\
-    assigned-clocks\0\
-    interrupt-parent\0\
-    phy-handle\0\
-    msi-parent\0\
-    memory-region\0\
-    syscon\0\
-    regmap\0\
-    iommus\0\
-    interconnects\0\
-    nvmem-cells\0\
-    sound-dai\0\
-    pinctrl-0\0\
-    pinctrl-1\0\
-    pinctrl-2\0\
-    pinctrl-3\0\
-    pinctrl-4\0";
-
-// How many names ask their targets for a cells property, and which: a row each.
-const ROWS: usize = 13;
-
-const ASKING: [u8; 129] = *b"\
-    clocks\0\
-    assigned-clocks\0\
-    resets\0\
-    power-domains\0\
-    phys\0\
-    interrupts\0\
-    interrupts-extended\0\
-    gpios\0\
-    dmas\0\
-    thermal-sensors\0\
-    sound-dai\0\
-    mboxes\0\
-    pwms\0";
-
-// The row of `gpios`, which stands for every name that ends so.
-const GPIOS: usize = 7;
-
-// The cells property of each row, filled up to one width, so that a row is read where it stands, without a walk.
-const WIDTH: usize = 22;
-
-const CELLS: [u8; 286] = *b"\
-    #clock-cells\0\0\0\0\0\0\0\0\0\0\
-    #clock-cells\0\0\0\0\0\0\0\0\0\0\
-    #reset-cells\0\0\0\0\0\0\0\0\0\0\
-    #power-domain-cells\0\0\0\
-    #phy-cells\0\0\0\0\0\0\0\0\0\0\0\0\
-    #interrupt-cells\0\0\0\0\0\0\
-    #interrupt-cells\0\0\0\0\0\0\
-    #gpio-cells\0\0\0\0\0\0\0\0\0\0\0\
-    #dma-cells\0\0\0\0\0\0\0\0\0\0\0\0\
-    #thermal-sensor-cells\0\
-    #sound-dai-cells\0\0\0\0\0\0\
-    #mbox-cells\0\0\0\0\0\0\0\0\0\0\0\
-    #pwm-cells\0\0\0\0\0\0\0\0\0\0\0\0";
-
-// The cells property that tells how many words follow a reference, by its row; past the last row there is none.
+// The cells properties, each of which tells how many words follow a reference to the node that has it.
 #[derive(Clone, Copy)]
-pub struct Cells {
-    pub row: usize,
+pub enum Cells {
+    Clock,
+    Reset,
+    PowerDomain,
+    Phy,
+    Interrupt,
+    Gpio,
+    Dma,
+    ThermalSensor,
+    SoundDai,
+    Mbox,
+    Pwm,
 }
 
-// Which of a table's names this is, counted from 0; as many as there are where it is none of them.
-fn place_of(table: &[u8], name: &[u8]) -> usize
-    ensures { result ≡ place_in name.now (cut table.now) }
-{
-    let mut at = 0;
-    let mut k = 0;
-    while at < table.len() {
-        let n = octets::nul(table, at);
-        if octets::same(name, octets::part(table, at, n)) {
-            return k;
+impl Cells {
+    // The property's name.
+    fn name(self) -> &'static [u8]
+        ensures { result.now ≡ ascii (name_of self) }
+    {
+        match self {
+            Cells::Clock => b"#clock-cells",
+            Cells::Reset => b"#reset-cells",
+            Cells::PowerDomain => b"#power-domain-cells",
+            Cells::Phy => b"#phy-cells",
+            Cells::Interrupt => b"#interrupt-cells",
+            Cells::Gpio => b"#gpio-cells",
+            Cells::Dma => b"#dma-cells",
+            Cells::ThermalSensor => b"#thermal-sensor-cells",
+            Cells::SoundDai => b"#sound-dai-cells",
+            Cells::Mbox => b"#mbox-cells",
+            Cells::Pwm => b"#pwm-cells",
         }
-        at += n + 1;
-        k += 1;
     }
-    k
 }
+
+// Names that ask their targets for one cells property.
+#[derive(Clone, Copy)]
+struct Row<'a> {
+    names: &'a [&'a [u8]],
+    cells: Cells,
+}
+
+impl<'a> Row<'a> {
+    // Whether a property of this name asks so.
+    fn asks(&self, name: &[u8]) -> bool
+        ensures { result ≡ stands_in name.now self.now.names.now }
+    {
+        self.names.contains(&name)
+    }
+}
+
+// Which name asks for which cells property.
+const ROWS: [Row; 11] = [
+    Row {
+        names: &[b"clocks", b"assigned-clocks"],
+        cells: Cells::Clock,
+    },
+    Row {
+        names: &[b"resets"],
+        cells: Cells::Reset,
+    },
+    Row {
+        names: &[b"power-domains"],
+        cells: Cells::PowerDomain,
+    },
+    Row {
+        names: &[b"phys"],
+        cells: Cells::Phy,
+    },
+    Row {
+        names: &[b"interrupts", b"interrupts-extended"],
+        cells: Cells::Interrupt,
+    },
+    Row {
+        names: &[b"gpios"],
+        cells: Cells::Gpio,
+    },
+    Row {
+        names: &[b"dmas"],
+        cells: Cells::Dma,
+    },
+    Row {
+        names: &[b"thermal-sensors"],
+        cells: Cells::ThermalSensor,
+    },
+    Row {
+        names: &[b"sound-dai"],
+        cells: Cells::SoundDai,
+    },
+    Row {
+        names: &[b"mboxes"],
+        cells: Cells::Mbox,
+    },
+    Row {
+        names: &[b"pwms"],
+        cells: Cells::Pwm,
+    },
+];
 
 // Whether it is one of the 23 names.
 fn is_listed(name: &[u8]) -> bool
     ensures { result ≡ among name.now reference_names }
 {
-    place_of(&NAMES, name) < COUNT
+    NAMES.contains(&name)
 }
 
 // Whether the name ends in `-gpios` or `-gpio`.
+#[tactic(auto, unfolding(rules::specs::Octets::ascii, rules::specs::References::is_gpio))]
 fn is_gpio(name: &[u8]) -> bool
     ensures { result ≡ is_gpio name.now }
 {
-    if octets::ends(b"-gpios", name) {
-        return true;
-    }
-    octets::ends(b"-gpio", name)
-}
-
-// Whether the name is `gpios`, or ends in `-supply`, `-gpios` or `-gpio`.
-fn is_ended(name: &[u8]) -> bool
-    ensures { result ≡ (ends (ascii "-supply") name.now || same name.now (ascii "gpios") || is_gpio name.now) }
-{
-    if octets::ends(b"-supply", name) {
-        return true;
-    }
-    if octets::same(name, b"gpios") {
-        return true;
-    }
-    is_gpio(name)
+    octets::ends(b"-gpios", name) || octets::ends(b"-gpio", name)
 }
 
 // Whether a property of this name holds references: it is one of the 23 names or `gpios`, ends in `-supply`, `-gpios` or
 // `-gpio`, or holds `cells` and does not begin with `#`.
+#[tactic(auto, unfolding(rules::specs::Octets::ascii, rules::specs::References::is_reference))]
 pub fn is_phandle_property(name: &[u8]) -> bool
     ensures { result ≡ is_reference name.now }
 {
-    if is_listed(name) {
-        return true;
-    }
-    if is_ended(name) {
-        return true;
-    }
-    if octets::begins(b"#", name) {
-        return false;
-    }
-    octets::holds(b"cells", name)
+    is_listed(name)
+        || octets::ends(b"-supply", name)
+        || octets::same(name, b"gpios")
+        || is_gpio(name)
+        || octets::holds(b"cells", name) && !octets::begins(b"#", name)
 }
 
-// The cells property that a property of this name asks its targets for; none where it asks for none, and a reference is one
+// The cells property that a property of this name asks its targets for; None where it asks for none, and a reference is one
 // word.
-pub fn cells_name(name: &[u8]) -> Cells
+pub fn cells_name(name: &[u8]) -> Option<Cells>
     ensures { meaning result ≡ cells_in cell_rows name.now }
 {
-    let row = place_of(&ASKING, name);
-    if row < ROWS {
-        return Cells { row };
+    if let Some(row) = ROWS.iter().find(|row| row.asks(name)) {
+        return Some(row.cells);
     }
-    if is_gpio(name) {
-        return Cells { row: GPIOS };
-    }
-    Cells { row: ROWS }
+    is_gpio(name).then_some(Cells::Gpio)
 }
 
-// Whether this name stands in this row.
-fn is_asked(row: usize, name: &[u8]) -> bool
-    ensures { result ≡ is_named (nth (asked cell_rows) row) name.now }
+// Whether a property of this name is that cells property; false where none is asked for.
+pub fn is_cells(cells: Option<Cells>, name: &[u8]) -> bool
+    ensures { result ≡ is_named (meaning cells) name.now }
 {
-    if ROWS <= row {
-        return false;
+    match cells {
+        Some(asked) => asked.name() == name,
+        None => false,
     }
-    octets::same(octets::string_at(&CELLS, WIDTH * row), name)
-}
-
-// Whether a property of this name is that cells property. Every property of a target is asked, and few begin with `#`: the
-// table is laid out for those alone.
-pub fn is_cells(c: Cells, name: &[u8]) -> bool
-    ensures { result ≡ is_named (meaning c) name.now }
-{
-    if !octets::begins(b"#", name) {
-        return false;
-    }
-    is_asked(c.row, name)
 }

@@ -2,3 +2,5 @@
 pub mod Turns
 pub mod Entered
 pub mod Unique
+pub mod Short
+pub mod Spoken

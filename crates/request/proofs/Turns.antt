@@ -1,90 +1,113 @@
 -- A turn of the walks over the lines: nothing is left, or the walk goes on behind a line.
-use mathlib.Core.Path.{◌≡◌, sym, ap, ◌∙◌}
-use mathlib.Core.Bool.{Bool, true, false}
+use mathlib.Core.Path.{◌≡◌, refl, sym, ap, ◌∙◌, subst}
+use mathlib.Core.Bool.{true, false}
 use mathlib.Core.List.{List, [], ◌∷◌, ◌++◌}
-use Prim.Native.Nat.{ℕ, ◌+◌, ◌≤◌, ◌<◌}
+use Prim.Native.Nat.{ℕ, ◌+◌, ◌≤◌}
 use native.Mathlib.Omega.{arith}
-use lib.ListN.{length}
+use lib.ListN.{length, drop, length-append, length-drop}
+use lib.Seq.{take_all}
 use borrow.Author.Tests.{le-ltb}
 use Rattle.rules.specs.Ceilings.{program_ceiling}
-use Rattle.rules.specs.Octets.{Bytes, part}
-use Rattle.rules.specs.Outcome.{passes, refuses}
-use Rattle.rules.specs.Program.{line_said, is_other, lines_judged, input_judged, configured_in, excluded_in, ids_in, named_by}
+use Rattle.rules.specs.Octets.{Bytes, part, closed, lay, zeros}
+use Rattle.rules.specs.Outcome.{Verdict, passes, refuses}
+use Rattle.rules.specs.Program.{line_said, is_other, lines_of, lines_judged, input_judged, configured_in, excluded_in, ids_in, named_by}
 use Rattle.rules.specs.Program as program
-use Rattle.rules.specs.Laws.Program.{lines_at}
-use Rattle.rules.proofs.Laws.Program.{lines_all, lines_none, lines_fault, lines_good, configured_split, excluded_split, named_split}
-use Rattle.request.specs.declared.Line.{Line}
-use Rattle.request.specs.declared.Line.TheVariants.{Text, Done}
+use Rattle.rules.proofs.Laws.Program.{lines_none, lines_fault, lines_good, configured_split, excluded_split, named_split, Laying, laying_more}
+use Rattle.rules.proofs.Laws.Octets.{lay_then}
+use Rattle.request.proofs.Short.{configured_short, excluded_short, ids_short}
+use Rattle.request.specs.declared.List.{List as Listed}
+use Rattle.request.specs.declared.List.TheVariants.{Configured, Excluded}
 use Rattle.request.specs.Answers.{listed_by, list_in}
-use Rattle.request.specs.Lines.{line_at, text_tells, done_tells}
 
 -- ---- judging
 
--- the rest of the lines, judged from a place on, is the whole input judged
-abbrev pub Rest : Bytes → ℕ → Type 0
-Rest s at = input_judged s ≡ lines_judged (lines_at s at)
-
-pub at_start_lem : (s : Bytes) → length s ≤ program_ceiling → Rest s 0
+pub judged_lines : (s : Bytes) → length s ≤ program_ceiling → input_judged s ≡ lines_judged (lines_of s)
 unfolding input_judged
-at_start_lem s h = rw (le-ltb program_ceiling (length s) h) (ap lines_judged (lines_all s))
+judged_lines s h = rw (le-ltb program_ceiling (length s) h)
 
-pub at_done : (s : Bytes) (at : ℕ) → Rest s at → (l : Line) → l ≡ line_at s at → l ≡ Done → passes ≡ input_judged s
-at_done s at inv l p q = sym (inv ∙ ap lines_judged (done_tells s at l p q) ∙ lines_none)
+module _ (whole : Verdict) (left : List program.Line) (inv : whole ≡ lines_judged left) where
+  pub at_done : left ≡ [] → passes ≡ whole
+  at_done e = sym (inv ∙ ap lines_judged e ∙ lines_none)
+
+  module _ (l : program.Line) (rest : List program.Line) (e : left ≡ l ∷ rest) where
+    pub at_fault : is_other (line_said l.text) ≡ true → refuses 41 l.offset ≡ whole
+    at_fault h = sym (inv ∙ ap lines_judged e ∙ lines_fault l rest h)
+
+    pub at_good : is_other (line_said l.text) ≡ false → whole ≡ lines_judged rest
+    at_good h = inv ∙ ap lines_judged e ∙ lines_good l rest h
 
 -- ---- the lists
 
 -- nothing is left
-pub listed_done : (excluded : Bool) (s : Bytes) (at : ℕ) (l : Line) → l ≡ line_at s at → l ≡ Done → list_in excluded (lines_at s at) ≡ []
+pub listed_done : (list : Listed) → list_in list [] ≡ []
 unfolding configured_in excluded_in
-listed_done false s at l p q = ap configured_in (done_tells s at l p q)
-listed_done true s at l p q = ap excluded_in (done_tells s at l p q)
+listed_done Configured = refl
+listed_done Excluded = refl
 
-pub ids_done : (s : Bytes) (at : ℕ) (l : Line) → l ≡ line_at s at → l ≡ Done → ids_in (lines_at s at) ≡ []
+pub ids_done : ids_in [] ≡ []
 unfolding ids_in
-ids_done s at l p q = ap ids_in (done_tells s at l p q)
+ids_done = refl
 
 -- what a line adds, in front of what the others do
-listed_step : (excluded : Bool) (l : program.Line) (ls : List program.Line) → list_in excluded (l ∷ ls) ≡ listed_by excluded (line_said l.text) [] ++ list_in excluded ls
+pub listed_step : (list : Listed) (l : program.Line) (ls : List program.Line) → list_in list (l ∷ ls) ≡ listed_by list (line_said l.text) [] ++ list_in list ls
 unfolding configured_in excluded_in
-listed_step false l ls = configured_split (line_said l.text) (configured_in ls)
-listed_step true l ls = excluded_split (line_said l.text) (excluded_in ls)
+listed_step Configured l ls = configured_split (line_said l.text) (configured_in ls)
+listed_step Excluded l ls = excluded_split (line_said l.text) (excluded_in ls)
 
-ids_step : (l : program.Line) (ls : List program.Line) → ids_in (l ∷ ls) ≡ named_by (line_said l.text) [] ++ ids_in ls
+pub ids_step : (l : program.Line) (ls : List program.Line) → ids_in (l ∷ ls) ≡ named_by (line_said l.text) [] ++ ids_in ls
 unfolding ids_in
 ids_step l ls = named_split (line_said l.text) (ids_in ls)
 
--- a line names one id at most
-few : (s : program.Said) → length (named_by s []) ≤ 1
-few (program.configures p) = omega arith
-few (program.excludes p) = omega arith
-few (program.names n) = omega arith
-few program.other = omega arith
+list_short : (list : Listed) (input : Bytes) → length (list_in list (lines_of input)) ≤ length input
+list_short Configured input = configured_short input
+list_short Excluded input = excluded_short input
 
-pub one_id : (text : Bytes) → length (named_by (line_said text) []) ≤ 1
-one_id text = few (line_said text)
+-- what stands before the rest has room in the whole
+laying_room : {A : Type 0} {whole old new : List A} {laid : ℕ} (xs ys : List A) → Laying whole old new laid (xs ++ ys) → laid + length xs ≤ length whole
+laying_room xs ys l = omega (arith, l.count, ap length l.split, length-append l.done (xs ++ ys), length-append xs ys)
 
-module _ (s : Bytes) (at : ℕ) (l : Line) (p : l ≡ line_at s at) (len next : ℕ) (q : l ≡ Text len next) where
-  pub further : at < next
-  further = (text_tells s at l len next p q).0
+module _ (list : Listed) (input : Bytes) {old new : Bytes} {laid : ℕ} (left : List program.Line) (inv : Laying (list_in list (lines_of input)) old new laid (list_in list left)) where
+  pub paths_done : left ≡ [] → Laying (list_in list (lines_of input)) old new laid []
+  paths_done e = subst (Laying (list_in list (lines_of input)) old new laid) (ap (list_in list) e ∙ listed_done list) inv
 
-  pub behind : at + len ≤ next
-  behind = (text_tells s at l len next p q).1
+  module _ (l : program.Line) (rest : List program.Line) (e : left ≡ l ∷ rest) where
+    paths_here : Laying (list_in list (lines_of input)) old new laid (listed_by list (line_said l.text) [] ++ list_in list rest)
+    paths_here = subst (Laying (list_in list (lines_of input)) old new laid) (ap (list_in list) e ∙ listed_step list l rest) inv
 
-  pub inside : next ≤ length s
-  inside = (text_tells s at l len next p q).2
+    pub paths_skip : listed_by list (line_said l.text) [] ≡ [] → Laying (list_in list (lines_of input)) old new laid (list_in list rest)
+    paths_skip f = subst (λ (xs : Bytes). Laying (list_in list (lines_of input)) old new laid (xs ++ list_in list rest)) f paths_here
 
-  pub at_fault : Rest s at → (text : Bytes) (r : Bool) → text ≡ part s at len → r ≡ is_other (line_said text) → r ≡ true → refuses 41 at ≡ input_judged s
-  at_fault inv text r f t h =
-      sym (inv ∙ ap lines_judged (text_tells s at l len next p q).3 ∙ lines_fault (record { offset = at; text = part s at len }) (lines_at s next) (rw (← f, ← t) h))
+    module _ (path : Bytes) (f : path ≡ part l.text 2 (length l.text)) (g : listed_by list (line_said l.text) [] ≡ closed (drop 2 l.text)) where
+      path_here : Laying (list_in list (lines_of input)) old new laid (closed path ++ list_in list rest)
+      path_here =
+          subst (λ (xs : Bytes). Laying (list_in list (lines_of input)) old new laid (xs ++ list_in list rest))
+          (g ∙ ap closed (sym (f ∙ take_all (length l.text) (drop 2 l.text) (omega (arith, length-drop 2 l.text)))))
+          paths_here
 
-  pub at_good : Rest s at → (text : Bytes) (r : Bool) → text ≡ part s at len → r ≡ is_other (line_said text) → r ≡ false → Rest s next
-  at_good inv text r f t h =
-      inv ∙ ap lines_judged (text_tells s at l len next p q).3 ∙ lines_good (record { offset = at; text = part s at len }) (lines_at s next) (rw (← f, ← t) h)
+      pub path_room : laid + (length path + 1) ≤ length input
+      path_room = omega (arith, laying_room (closed path) (list_in list rest) path_here, length-append path (0 ∷ []), list_short list input)
 
-  pub listed_more : (excluded : Bool) → list_in excluded (lines_at s at) ≡ listed_by excluded (line_said (part s at len)) [] ++ list_in excluded (lines_at s next)
-  listed_more excluded =
-      ap (list_in excluded) (text_tells s at l len next p q).3 ∙ listed_step excluded (record { offset = at; text = part s at len }) (lines_at s next)
+      pub path_more : {laid_path laid_whole : Bytes} → laid_path ≡ lay new laid path → laid_whole ≡ lay laid_path (laid + length path) (zeros 1) → Laying (list_in list (lines_of input)) old laid_whole (laid + (length path + 1)) (list_in list rest)
+      path_more p q =
+          laying_more (closed path) (list_in list rest) path_here (lay_then new laid path (zeros 1) p refl q) (omega (arith, length-append path (0 ∷ [])))
 
-  pub ids_more : (text : Bytes) → text ≡ part s at len → ids_in (lines_at s at) ≡ named_by (line_said text) [] ++ ids_in (lines_at s next)
-  ids_more text f =
-      ap ids_in (text_tells s at l len next p q).3 ∙ ids_step (record { offset = at; text = part s at len }) (lines_at s next) ∙ rw (← f)
+module _ (input : Bytes) {old new : List ℕ} {laid : ℕ} (left : List program.Line) (inv : Laying (ids_in (lines_of input)) old new laid (ids_in left)) where
+  pub ids_over : left ≡ [] → Laying (ids_in (lines_of input)) old new laid []
+  ids_over e = subst (Laying (ids_in (lines_of input)) old new laid) (ap ids_in e ∙ ids_done) inv
+
+  module _ (l : program.Line) (rest : List program.Line) (e : left ≡ l ∷ rest) where
+    ids_here : Laying (ids_in (lines_of input)) old new laid (named_by (line_said l.text) [] ++ ids_in rest)
+    ids_here = subst (Laying (ids_in (lines_of input)) old new laid) (ap ids_in e ∙ ids_step l rest) inv
+
+    pub ids_skip : named_by (line_said l.text) [] ≡ [] → Laying (ids_in (lines_of input)) old new laid (ids_in rest)
+    ids_skip f = subst (λ (xs : List ℕ). Laying (ids_in (lines_of input)) old new laid (xs ++ ids_in rest)) f ids_here
+
+    module _ (id : ℕ) (f : named_by (line_said l.text) [] ≡ id ∷ []) where
+      id_here : Laying (ids_in (lines_of input)) old new laid (id ∷ [] ++ ids_in rest)
+      id_here = subst (λ (xs : List ℕ). Laying (ids_in (lines_of input)) old new laid (xs ++ ids_in rest)) f ids_here
+
+      pub id_room : laid + 1 ≤ length input
+      id_room = omega (arith, laying_room (id ∷ []) (ids_in rest) id_here, ids_short input)
+
+      pub id_more : {next : List ℕ} → next ≡ lay new laid (id ∷ []) → Laying (ids_in (lines_of input)) old next (laid + 1) (ids_in rest)
+      id_more p = laying_more (id ∷ []) (ids_in rest) id_here p refl

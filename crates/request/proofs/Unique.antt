@@ -1,25 +1,25 @@
 -- Two answers that say the same are the same: the meaning of an answer gives it back.
 use mathlib.Core.Path.{◌≡◌, refl, sym, ap, ◌∙◌}
+use Rattle.std.specs.Prelude.{Result, Ok, Err}
 use Rattle.rules.specs.Octets.{Bytes}
 use Rattle.rules.specs.Outcome.{Verdict, gives, refuses}
 use Rattle.rules.specs.Program.{configures, excludes, names, other, line_said}
 use Rattle.rules.specs.Program as program
-use Rattle.request.specs.declared.Judged.{Judged}
-use Rattle.request.specs.declared.Judged.TheVariants.{Passes, Refused}
+use Rattle.request.specs.declared.Fault.{Fault}
 use Rattle.request.specs.declared.Said.{Said}
 use Rattle.request.specs.declared.Said.TheVariants.{Configures, Excludes, Names, Other}
 use Rattle.request.specs.Answers.{meaning, said}
 
-judged_of : Verdict → Judged
-judged_of (gives u) = Passes
-judged_of (refuses number at) = Refused at
+judged_of : Verdict → Result (Unit {0}) Fault
+judged_of (gives u) = Ok u
+judged_of (refuses number at) = Err (record { at = at })
 
-judged_of_lem : (a : Judged) → judged_of (meaning a) ≡ a
+judged_of_lem : (a : Result (Unit {0}) Fault) → judged_of (meaning a) ≡ a
 unfolding judged_of
-judged_of_lem Passes = refl
-judged_of_lem (Refused at) = refl
+judged_of_lem (Ok u) = refl
+judged_of_lem (Err fault) = refl
 
-pub meaning_injective : (a c : Judged) → meaning a ≡ meaning c → a ≡ c
+pub meaning_injective : (a c : Result (Unit {0}) Fault) → meaning a ≡ meaning c → a ≡ c
 meaning_injective a c e = sym (judged_of_lem a) ∙ ap judged_of e ∙ judged_of_lem c
 
 said_of : program.Said → Said

@@ -1,18 +1,19 @@
 -- What each answer means, in the words of the definitions.
-use Rattle.std.specs.Prelude.{Bool, true, false, not, List, drop}
+use Rattle.std.specs.Prelude.{Bool, true, false, List, ℕ, drop, Option, Some, None, Result, Ok, Err}
 use Rattle.rules.specs.Octets.{Bytes}
 use Rattle.rules.specs.Outcome.{Verdict, passes, refuses}
 use Rattle.rules.specs.Program.{Line, configures, excludes, names, other, configured_by, excluded_by, configured_in, excluded_in}
 use Rattle.rules.specs.Program as program
-use Rattle.request.specs.declared.Judged.{Judged}
-use Rattle.request.specs.declared.Judged.TheVariants.{Passes, Refused}
+use Rattle.request.specs.declared.Fault.{Fault}
+use Rattle.request.specs.declared.List.{List as Listed}
+use Rattle.request.specs.declared.List.TheVariants.{Configured, Excluded}
 use Rattle.request.specs.declared.Said.{Said}
 use Rattle.request.specs.declared.Said.TheVariants.{Configures, Excludes, Names, Other}
 
 -- the paper's number and place
-abbrev pub meaning : Judged → Verdict
-meaning Passes = passes
-meaning (Refused at) = refuses 41 at
+abbrev pub meaning : Result (Unit {0}) Fault → Verdict
+meaning (Ok u) = passes
+meaning (Err fault) = refuses 41 fault.at
 
 -- what is said by a line with this text
 abbrev pub said : Said → Bytes → program.Said
@@ -21,18 +22,27 @@ said Excludes text = excludes (drop 2 text)
 said (Names id) text = names id
 said Other text = other
 
--- ---- the two lists of paths, which are made alike: `true` stands for the excluded ones
+-- what is said by a line with these digits
+abbrev pub decimal_of : Option ℕ → program.Said
+decimal_of (Some id) = names id
+decimal_of None = other
 
-abbrev pub enters : Bool → Said → Bool
-enters excluded Configures = not excluded
-enters excluded Excludes = excluded
-enters excluded (Names id) = false
-enters excluded Other = false
+-- ---- the two lists of paths, which are made alike
 
-abbrev pub listed_by : Bool → program.Said → Bytes → Bytes
-listed_by false = configured_by
-listed_by true = excluded_by
+abbrev pub enters : Listed → Said → Bool
+enters Configured Configures = true
+enters Configured Excludes = false
+enters Configured (Names id) = false
+enters Configured Other = false
+enters Excluded Configures = false
+enters Excluded Excludes = true
+enters Excluded (Names id) = false
+enters Excluded Other = false
 
-abbrev pub list_in : Bool → List Line → Bytes
-list_in false = configured_in
-list_in true = excluded_in
+abbrev pub listed_by : Listed → program.Said → Bytes → Bytes
+listed_by Configured = configured_by
+listed_by Excluded = excluded_by
+
+abbrev pub list_in : Listed → List Line → Bytes
+list_in Configured = configured_in
+list_in Excluded = excluded_in

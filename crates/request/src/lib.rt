@@ -3,22 +3,28 @@
 // past the end of a lent buffer is dropped, and the lengths answered are those of the whole lists.
 #![tactic(auto)]
 
-ghost use Rattle.std.specs.Prelude.{◌≡◌, [], ◌∷◌, ◌+◌, ◌-◌, ◌≤◌, ◌<◌, length};
-ghost use Rattle.rules.specs.Octets.{Bytes, part, lay};
-ghost use Rattle.rules.specs.Program.{lines_of, decimal_said, line_said, is_other, input_judged, configured_in, excluded_in, ids_in, named_by};
-ghost use Rattle.request.specs.Answers.{meaning, said, enters, listed_by, list_in};
-ghost use Rattle.request.specs.Lines.{line_at};
+ghost use Rattle.std.specs.Prelude.{◌≡◌, length};
+ghost use Rattle.std.specs.Iterator.{YieldsFirstBy, item_count};
+ghost use Rattle.rules.specs.Octets.{lay};
+ghost use Rattle.rules.specs.Program.{lines_of, decimal_said, line_said, input_judged, configured_in, excluded_in, ids_in};
+ghost use Rattle.request.specs.Answers.{meaning, said, decimal_of, enters, list_in};
+ghost use Rattle.request.specs.Lines.{line_at, placed, lines_left};
 
 use rules::PROGRAM_CEILING;
 
-// The largest id.
-const TOP: u64 = 18446744073709551615;
-
-// What stands at a place of the input: a line of `len` bytes, and where the next one begins; or nothing more.
+// A line of an input: of `len` bytes, the next one beginning at `next`.
 #[derive(Clone, Copy)]
-pub enum Line {
-    Text { len: usize, next: usize },
-    Done,
+pub struct Line {
+    pub len: usize,
+    pub next: usize,
+}
+
+// The lines of an input from a place on, each with its offset. The paths of a list are walked likewise (`given`), but a path is
+// told with whether it is closed, and the paper takes the two apart by rules of their own: one walk for both would be no plainer.
+#[derive(Drop)]
+struct Lines<'a> {
+    input: &'a [u8],
+    at: usize,
 }
 
 // What a line says. The path of the first two is what stands behind their first two bytes.
@@ -30,64 +36,69 @@ pub enum Said {
     Other,
 }
 
-// Whether the lines may be used, or the place of the first fault, which is refusal 41.
+// The place of the first fault of an input, which is refusal 41.
 #[derive(Clone, Copy)]
-pub enum Judged {
-    Passes,
-    Refused { at: usize },
+pub struct Fault {
+    pub at: usize,
 }
 
 // ---- lines
 
-// The line that begins at a place of the input: Text, up to the next newline or, where there is none, up to the end, with
-// `next` behind its newline or at the end; Done at the end and past it.
-pub fn line_at(input: &[u8], at: usize) -> Line
+// The line that begins at a place of the input: up to the next newline or, where there is none, up to the end, with `next`
+// behind its newline or at the end; None at the end and past it.
+pub fn line_at(input: &[u8], at: usize) -> Option<Line>
     ensures { result ≡ line_at input.now at }
 {
     if input.len() <= at {
-        return Line::Done;
+        return None;
     }
     let len = octets::length_to(input, at, b'\n');
-    if len < input.len() - at {
-        return Line::Text {
-            len,
-            next: at + len + 1,
-        };
+    let end = at + len;
+    let next = if end < input.len() { end + 1 } else { end };
+    Some(Line { len, next })
+}
+
+impl<'a> Lines<'a> {
+    fn of(input: &'a [u8]) -> Self
+        ensures { lines_left result ≡ lines_of input.now }
+    {
+        Lines { input, at: 0 }
     }
-    Line::Text {
-        len,
-        next: at + len,
+}
+
+impl<'a> Iterator for Lines<'a> {
+    type Item = (usize, &'a [u8]);
+
+    ghost next_gives = { YieldsFirstBy placed lines_left };
+
+    ghost remaining = { item_count lines_left };
+
+    fn next(&mut self) -> Option<(usize, &'a [u8])> {
+        let at = self.at;
+        let line = line_at(self.input, at)?;
+        self.at = line.next;
+        Some((at, octets::part(self.input, at, line.len)))
     }
 }
 
 // ---- what a line says
 
-// The number that digits say: Names, or Other where there is none, a byte is no digit, or it is 2^64 or more. That is seen
-// before the number grows past the type, so that leading zeros may be as many as they like.
-fn decimal_said(digits: &[u8]) -> Said
-    ensures { (text : Bytes) → said result text ≡ decimal_said digits.now }
+// The number that digits say; None where there is no digit, a byte is none, or the number is 2^64 or more. Leading zeros may
+// be as many as they like.
+fn decimal(digits: &[u8]) -> Option<u64>
+    ensures { decimal_of result ≡ decimal_said digits.now }
 {
-    if digits.len() == 0 {
-        return Said::Other;
+    if digits.is_empty() {
+        return None;
     }
     let mut n: u64 = 0;
-    let mut i = 0;
-    while i < digits.len() {
-        let b = digits[i];
-        if b < b'0' {
-            return Said::Other;
+    for b in digits {
+        if !b.is_ascii_digit() {
+            return None;
         }
-        if b'9' < b {
-            return Said::Other;
-        }
-        let d = (b - b'0') as u64;
-        if (TOP - d) / 10 < n {
-            return Said::Other;
-        }
-        n = n * 10 + d;
-        i += 1;
+        n = n.checked_mul(10)?.checked_add(u64::from(*b - b'0'))?;
     }
-    Said::Names(n)
+    Some(n)
 }
 
 // What a line says, its newline not counted: Configures or Excludes a path, Names an id, or Other: anything else, a line with
@@ -98,102 +109,66 @@ pub fn line_said(text: &[u8]) -> Said
     if octets::nul(text, 0) < text.len() {
         return Said::Other;
     }
-    if octets::begins(b"c ", text) {
-        return Said::Configures;
-    }
-    if octets::begins(b"x ", text) {
-        return Said::Excludes;
-    }
-    if octets::begins(b"i ", text) {
-        return decimal_said(octets::part(text, 2, text.len()));
-    }
-    Said::Other
-}
-
-// Whether a line is none of the three.
-fn is_other(text: &[u8]) -> bool
-    ensures { result ≡ is_other (line_said text.now) }
-{
-    match line_said(text) {
-        Said::Configures => false,
-        Said::Excludes => false,
-        Said::Names(_) => false,
-        Said::Other => true,
+    match text {
+        [b'c', b' ', ..] => Said::Configures,
+        [b'x', b' ', ..] => Said::Excludes,
+        [b'i', b' ', digits @ ..] => decimal(digits).map_or(Said::Other, Said::Names),
+        _ => Said::Other,
     }
 }
 
-// Judges an input. Passes: at most 65,536 bytes, and each line one of the three. Refused: `at` is 65536 where it is longer,
-// and else the offset of the first other line.
-pub fn input_judged(input: &[u8]) -> Judged
+// Judges an input. Ok: at most 65,536 bytes, and each line one of the three. Err: `at` is 65536 where it is longer, and else
+// the offset of the first other line.
+pub fn input_judged(input: &[u8]) -> Result<(), Fault>
     ensures { meaning result ≡ input_judged input.now }
 {
     if PROGRAM_CEILING < input.len() {
-        return Judged::Refused {
+        return Err(Fault {
             at: PROGRAM_CEILING,
-        };
+        });
     }
-    let mut at = 0;
-    loop {
-        let Line::Text { len, next } = line_at(input, at) else {
-            return Judged::Passes;
-        };
-        if is_other(octets::part(input, at, len)) {
-            return Judged::Refused { at };
+    for (offset, text) in Lines::of(input) {
+        if let Said::Other = line_said(text) {
+            return Err(Fault { at: offset });
         }
-        at = next;
     }
+    Ok(())
 }
 
 // ---- the lists, each in the order of its lines
 
-// Whether a line goes into the list of configured or, where `excluded` says so, of excluded paths.
-fn enters(excluded: bool, what: Said) -> bool
-    ensures { result ≡ enters excluded what }
+// The two lists of paths.
+#[derive(Clone, Copy)]
+enum List {
+    Configured,
+    Excluded,
+}
+
+// Whether a line goes into a list of paths.
+fn enters(list: List, what: Said) -> bool
+    ensures { result ≡ enters list what }
 {
-    match what {
-        Said::Configures => !excluded,
-        Said::Excludes => excluded,
-        Said::Names(_) => false,
-        Said::Other => false,
+    match (list, what) {
+        (List::Configured, Said::Configures) | (List::Excluded, Said::Excludes) => true,
+        _ => false,
     }
 }
 
-// Lays what the line at a place adds to a list of paths behind the bytes laid, and answers how many are laid then.
-fn path_entered(
-    excluded: bool,
-    input: &[u8],
-    at: usize,
-    len: usize,
-    out: &mut [u8],
-    laid: usize,
-) -> usize
-    requires { (laid ≤ at) × (at < length input.now) × (at + len ≤ length input.now) }
-    ensures { (result ≡ laid + length (listed_by excluded (line_said (part input.now at len)) [])) × (out.new ≡ lay out.old laid (listed_by excluded (line_said (part input.now at len)) [])) × (result ≤ laid + (len - 2) + 1) }
+// Lays one of the two lists of paths, each closed by NUL, into `out` from its front on, and answers the list's length.
+fn paths_in(list: List, input: &[u8], out: &mut [u8]) -> usize
+    ensures value { result ≡ length (list_in list (lines_of input.now)) }
+    ensures out_after { out.new ≡ lay out.old 0 (list_in list (lines_of input.now)) }
 {
-    let text = octets::part(input, at, len);
-    if !enters(excluded, line_said(text)) {
-        return laid;
-    }
-    let path = octets::part(text, 2, len);
-    let end = laid + path.len();
-    octets::put_bytes(out, laid, path);
-    octets::put_zeros(out, end, 1);
-    end + 1
-}
-
-// One of the two lists of paths.
-fn paths_in(excluded: bool, input: &[u8], out: &mut [u8]) -> usize
-    ensures { (result ≡ length (list_in excluded (lines_of input.now))) × (out.new ≡ lay out.old 0 (list_in excluded (lines_of input.now))) }
-{
-    let mut at = 0;
     let mut laid = 0;
-    loop {
-        let Line::Text { len, next } = line_at(input, at) else {
-            return laid;
-        };
-        laid = path_entered(excluded, input, at, len, out, laid);
-        at = next;
+    for (_, text) in Lines::of(input) {
+        if enters(list, line_said(text)) {
+            let path = octets::part(text, 2, text.len());
+            octets::put(out, laid, path);
+            octets::put_zeros(out, laid + path.len(), 1);
+            laid += path.len() + 1;
+        }
     }
+    laid
 }
 
 // Lays the list of configured paths, each closed by NUL, into `out` from its front on, and answers the list's length. The
@@ -202,7 +177,7 @@ pub fn configured_in(input: &[u8], out: &mut [u8]) -> usize
     ensures value { result ≡ length (configured_in (lines_of input.now)) }
     ensures out_after { out.new ≡ lay out.old 0 (configured_in (lines_of input.now)) }
 {
-    paths_in(false, input, out)
+    paths_in(List::Configured, input, out)
 }
 
 // Lays the list of excluded paths, as `configured_in` does, and answers the list's length.
@@ -210,33 +185,7 @@ pub fn excluded_in(input: &[u8], out: &mut [u8]) -> usize
     ensures value { result ≡ length (excluded_in (lines_of input.now)) }
     ensures out_after { out.new ≡ lay out.old 0 (excluded_in (lines_of input.now)) }
 {
-    paths_in(true, input, out)
-}
-
-// Puts an id at an index; past the end it is dropped.
-fn put_id(out: &mut [u64], at: usize, id: u64)
-    ensures { out.new ≡ lay out.old at (id ∷ []) }
-{
-    if at < out.len() {
-        out[at] = id;
-    }
-}
-
-// Lays the id that a line names, if it does, behind those laid, and answers how many are laid then. There are at most as many
-// as the place of the next line.
-fn id_entered(text: &[u8], out: &mut [u64], laid: usize, next: usize) -> usize
-    requires { laid < next }
-    ensures { (result ≡ laid + length (named_by (line_said text.now) [])) × (out.new ≡ lay out.old laid (named_by (line_said text.now) [])) }
-{
-    match line_said(text) {
-        Said::Configures => laid,
-        Said::Excludes => laid,
-        Said::Names(id) => {
-            put_id(out, laid, id);
-            laid + 1
-        }
-        Said::Other => laid,
-    }
+    paths_in(List::Excluded, input, out)
 }
 
 // Lays the ids into `out` from its front on, and answers how many there are. The rest of `out` stays.
@@ -244,13 +193,12 @@ pub fn ids_in(input: &[u8], out: &mut [u64]) -> usize
     ensures value { result ≡ length (ids_in (lines_of input.now)) }
     ensures out_after { out.new ≡ lay out.old 0 (ids_in (lines_of input.now)) }
 {
-    let mut at = 0;
     let mut laid = 0;
-    loop {
-        let Line::Text { len, next } = line_at(input, at) else {
-            return laid;
-        };
-        laid = id_entered(octets::part(input, at, len), out, laid, next);
-        at = next;
+    for (_, text) in Lines::of(input) {
+        if let Said::Names(id) = line_said(text) {
+            octets::put(out, laid, &[id]);
+            laid += 1;
+        }
     }
+    laid
 }

@@ -12,5 +12,6 @@ pub mod Sieve
 pub mod Given
 pub mod Program
 pub mod Tabled
+pub mod Lent
 pub mod Kept
 pub mod Host

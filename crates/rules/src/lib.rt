@@ -1,6 +1,6 @@
-// The numbers that code and definitions share, and the answer of the token walk. What each number bounds is said in
-// specs/Ceilings.antt: a ceiling stands once here and once there. The numbers of the Devicetree Specification, which no request
-// moves, stand here for code and where the definitions read its sections.
+// The numbers that code and definitions share, a block and a tree as they are lent, and the answer of the token walk. What each
+// number bounds is said in specs/Ceilings.antt: a ceiling stands once here and once there. The numbers of the Devicetree
+// Specification, which no request moves, stand here for code and where the definitions read its sections.
 #![tactic(auto)]
 
 // Ceilings.
@@ -53,6 +53,22 @@ pub const FDT_PROP: u32 = 3;
 pub const FDT_NOP: u32 = 4;
 
 pub const FDT_END: u32 = 9;
+
+// The structure block of a blob, handed on as its own part; with it its strings block, and where the structure stands in the blob.
+#[derive(Clone, Copy)]
+pub struct Block<'a> {
+    pub structure: &'a [u8],
+    pub strings: &'a [u8],
+    pub place: usize,
+}
+
+// A tree as the reader leaves it: its block, and its nodes, which are the first `count` rows of the node table in the work space.
+#[derive(Clone, Copy)]
+pub struct Tree<'a, 'b> {
+    pub block: Block<'a>,
+    pub work: &'b [u32],
+    pub count: usize,
+}
 
 // What stands at a place of a structure block: an item and where the next one begins, END, or neither, where no token
 // stands there, an unknown one does, or the item is cut.

@@ -1,13 +1,11 @@
 -- Two answers that say the same are the same: the meaning of an answer gives it back.
-use Rattle.std.specs.Prelude.{if◌then◌else◌}
+use Rattle.std.specs.Prelude.{Result, Ok, Err, if◌then◌else◌}
 use mathlib.Core.Path.{◌≡◌, refl, sym, ap, ◌∙◌}
 use Prim.Native.Nat.{ℕ}
 use lib.Dec.{eqb}
 use Rattle.rules.specs.Outcome.{Outcome, gives, refuses}
 use Rattle.shape.specs.declared.Refusal.{Refusal}
 use Rattle.shape.specs.declared.Refusal.TheVariants.{Shape, Name, Deep, Many}
-use Rattle.shape.specs.declared.Answer.{Answer}
-use Rattle.shape.specs.declared.Answer.TheVariants.{Nodes, Refused}
 use Rattle.shape.specs.Answers.{meaning}
 
 refusal_of : (number place : ℕ) → Refusal
@@ -17,17 +15,17 @@ refusal_of number place =
     else if eqb number 8 then Deep place
     else Many place
 
-answer_of : Outcome ℕ → Answer
-answer_of (gives count) = Nodes count
-answer_of (refuses number place) = Refused (refusal_of number place)
+answer_of : Outcome ℕ → Result ℕ Refusal
+answer_of (gives count) = Ok count
+answer_of (refuses number place) = Err (refusal_of number place)
 
-back : (a : Answer) → answer_of (meaning a) ≡ a
+back : (a : Result ℕ Refusal) → answer_of (meaning a) ≡ a
 unfolding answer_of refusal_of
-back (Nodes count) = refl
-back (Refused (Shape at)) = refl
-back (Refused (Name at)) = refl
-back (Refused (Deep at)) = refl
-back (Refused (Many at)) = refl
+back (Ok count) = refl
+back (Err (Shape at)) = refl
+back (Err (Name at)) = refl
+back (Err (Deep at)) = refl
+back (Err (Many at)) = refl
 
-pub meaning_injective : (a c : Answer) → meaning a ≡ meaning c → a ≡ c
+pub meaning_injective : (a c : Result ℕ Refusal) → meaning a ≡ meaning c → a ≡ c
 meaning_injective a c e = sym (back a) ∙ ap answer_of e ∙ back c

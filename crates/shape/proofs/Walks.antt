@@ -9,11 +9,9 @@ use native.Mathlib.Numerals.{add-one}
 use lib.Dec.{eqb}
 use lib.ListN.{length, get_or, set, length-append, get_or-append}
 use lib.Seq.{get_or-append-add}
-use types.Run.{OneOf, miss}
-use denote.Enum.Declared.{tag_of}
 use Rattle.rules.specs.Ceilings.{work_words, node_ceiling, open_ceiling}
 use Rattle.rules.specs.Outcome.{Verdict, gives, ◌then◌}
-use Rattle.rules.specs.Blob.{Block, block_of}
+use Rattle.rules.specs.Blob.{Block}
 use Rattle.rules.specs.Tokens.{token_at}
 use Rattle.rules.specs.Events.{Event, after, on_token, judge, shape_judged, saying, events_in}
 use Rattle.rules.specs.Events as events
@@ -24,20 +22,18 @@ use Rattle.rules.specs.Laws.Events.{events_at}
 use Rattle.rules.proofs.Laws.Events.{judged_at, judged_all, events_all, judged_item, judged_end, judged_cut, events_item, events_end, events_cut}
 use Rattle.rules.specs.Laws.Reader.{start_of, starts_of}
 use Rattle.rules.proofs.Laws.Reader.{starts_length, starts_opens, starts_has, starts_closes, starts_none, table_fits, space_length, space_space, space_get, space_row}
-use Rattle.rules.specs.contracts.Token as tokens
 use Rattle.rules.specs.declared.Token.{Token}
 use Rattle.rules.specs.declared.Token.TheVariants.{Item, End, Cut}
 use Rattle.rules.specs.declared.Kind.{Kind}
 use Rattle.rules.specs.declared.Kind.TheVariants.{Begin, EndNode, Prop, Nop}
 use Rattle.rules.specs.Laws.Constants.{NODE_WORDS}
 use Rattle.shape.specs.declared.Refusal.{Refusal}
-use Rattle.shape.specs.declared.Answer.{Answer}
-use Rattle.shape.specs.declared.Answer.TheVariants.{Nodes, Refused}
+use Rattle.std.specs.Prelude.{Result, Ok, Err}
 use Rattle.shape.specs.declared.Walk.{Walk}
 use Rattle.shape.specs.declared.Turn.{Turn}
-use Rattle.shape.specs.declared.Turn.TheVariants.{Opens, Closes, Stays, Stops}
+use Rattle.shape.specs.declared.Turn.TheVariants.{Opens, Closes, Stays}
 use Rattle.shape.specs.Answers.{meaning}
-use Rattle.shape.specs.Shape.{Stands, opened_by, closed_by, follows, Only, Room, turn_of, DoesItem, Ends, Leaves, Shaped}
+use Rattle.shape.specs.Shape.{Stands, opened_by, closed_by, row_begun, parent_in, follows, Only, Room, turn_of, DoesItem, Ends, Leaves, Shaped}
 use Rattle.shape.proofs.Steps.{refused_then}
 
 -- ---- the open nodes, from the innermost up: each one's row has its parent's number
@@ -88,9 +84,9 @@ pub record Inv (b : Block) (d work : List ℕ) (at : ℕ) (w : Walk) : Type 0 wh
   pub node : w.node ≡ top stack
   pub climbs : Climbs words w.count stack
 
-pub starts : (b : Block) (d : List ℕ) → d ≡ space_of [] d → Inv b d d 0 (record { depth = 0; node = 0; count = 0; ended = false })
+pub starts : (b : Block) (d : List ℕ) (w : Walk) → (w.depth ≡ 0) × ((w.node ≡ 0) × ((w.count ≡ 0) × (w.ended ≡ false))) → d ≡ space_of [] d → Inv b d d 0 w
 unfolding nodes_of
-starts b d e = record {
+starts b d w h e = subst (Inv b d d 0) (λ i. record { depth = (sym h.0) i; node = (sym h.1.0) i; count = (sym h.1.1.0) i; ended = (sym h.1.1.1) i }) (record {
   stack = [];
   words = [];
   inside = omega arith;
@@ -102,15 +98,14 @@ starts b d e = record {
   depth = refl;
   node = refl;
   climbs = tt;
-}
+})
 
--- what an item does depends neither on the block's place nor on the next token's
-same_item : (b : Block) (place : ℕ) (v : events.Walk) (at : ℕ) (kind : Kind) (next : ℕ)
-    → on_token (block_of place b.structure b.strings) v at (Item kind 0) ≡ on_token b v at (Item kind next)
-same_item b place v at (Begin len) next = refl
-same_item b place v at EndNode next = refl
-same_item b place v at (Prop len name value) next = refl
-same_item b place v at Nop next = refl
+-- what an item does does not depend on the place of the next token
+same_item : (b : Block) (v : events.Walk) (at : ℕ) (kind : Kind) (next : ℕ) → on_token b v at (Item kind 0) ≡ on_token b v at (Item kind next)
+same_item b v at (Begin len) next = refl
+same_item b v at EndNode next = refl
+same_item b v at (Prop len name value) next = refl
+same_item b v at Nop next = refl
 
 -- the rows that a kind adds, by the turn that it makes
 module _ (b : Block) (at next : ℕ) (stack : List ℕ) (count : ℕ) (es : List Event) where
@@ -135,9 +130,9 @@ module _ (b : Block) (at next : ℕ) (stack : List ℕ) (count : ℕ) (es : List
   rows_stays (Prop len name value) e = starts_has stack count _ es
   rows_stays Nop e = refl
 
-leaves : (answer : Answer) (words d work : List ℕ) → length words ≤ work_words → work ≡ space_of words d → Leaves answer words d work
-leaves (Nodes count) words d work l e = e
-leaves (Refused refusal) words d work l e = ap (space_of []) e ∙ space_space [] words d (omega arith) l
+leaves : (answer : Result ℕ Refusal) (words d work : List ℕ) → length words ≤ work_words → work ≡ space_of words d → Leaves answer words d work
+leaves (Ok count) words d work l e = e
+leaves (Err refusal) words d work l e = ap (space_of []) e ∙ space_space [] words d (omega arith) l
 
 -- ---- the turns
 
@@ -157,38 +152,38 @@ module _ {b : Block} {d work : List ℕ} {at : ℕ} {w : Walk} (i : Inv b d work
   pub node_small : w.node ≤ w.count
   node_small = omega (arith, i.node, top_small i.words w.count i.stack i.climbs)
 
-  module _ {token : Token} {kind : Kind} {next : ℕ} {turn : Turn} (is : token ≡ token_at b.structure at) (case : token ≡ Item kind next)
-      (does : DoesItem w (b.place + at) b.structure b.strings at kind turn) where
+  module _ {token : Token} {kind : Kind} {next : ℕ} {turn : Result Turn Refusal} (is : token ≡ token_at b.structure at) (case : token ≡ Item kind next)
+      (does : DoesItem w (b.place + at) b at kind turn) where
     pub ahead : (at + 4 ≤ next) × (next ≤ length b.structure)
     ahead = item_ahead b.structure at token kind next is case
 
     turned : follows (λ (u : events.Walk). judged_at b u next) v turn ≡ shape_judged b
     turned =
         sym (does.same v stands (λ (u : events.Walk). judged_at b u next))
-        ∙ ap (after (λ (u : events.Walk). judged_at b u next) (b.place + at)) (same_item b (b.place + at) v at kind next)
+        ∙ ap (after (λ (u : events.Walk). judged_at b u next) (b.place + at)) (same_item b v at kind next)
         ∙ sym (judged_item b at i.inside v kind next (sym is ∙ case))
         ∙ i.judged
 
     events_on : events_at b at ≡ saying b at (Item kind next) (events_at b next)
     events_on = events_item b at i.inside kind next (sym is ∙ case)
 
-    pub at_stop : {f : Refusal} → turn ≡ Stops f → Shaped b d work (Refused f)
+    pub at_stop : {f : Refusal} → turn ≡ Err f → Shaped b d work (Err f)
     at_stop {f = f} e = record {
       judged = sym (ap (λ (o : Verdict). o then gives (length (nodes_of (events_in b)))) (sym turned ∙ ap (follows (λ (u : events.Walk). judged_at b u next) v) e) ∙ refused_then f _);
       table = ap (space_of []) i.here ∙ space_space [] i.words d (omega arith) short;
     }
 
-    pub opens_room : turn ≡ Opens → (w.depth < open_ceiling) × (w.count < node_ceiling)
+    pub opens_room : turn ≡ Ok Opens → (w.depth < open_ceiling) × (w.count < node_ceiling)
     opens_room e = subst (Room w) e does.room
 
-    pub closes_room : turn ≡ Closes → 0 < w.depth
+    pub closes_room : turn ≡ Ok Closes → 0 < w.depth
     closes_room e = subst (Room w) e does.room
 
-    pub closes_node : turn ≡ Closes → w.node < node_ceiling
+    pub closes_node : turn ≡ Ok Closes → w.node < node_ceiling
     closes_node e =
         omega (arith, i.node, i.few, (top_open i.words w.count i.stack i.climbs (omega (arith, closes_room e, i.depth))).0)
 
-    pub at_open : turn ≡ Opens → Inv b d (set (set work (NODE_WORDS * w.count) (b.place + at)) (NODE_WORDS * w.count + 1) w.node) next (opened_by w)
+    pub at_open : turn ≡ Ok Opens → Inv b d (row_begun work w (b.place + at)) next (opened_by w)
     at_open e =
         let n : ℕ = w.count in
         let row : List ℕ = start_of (b.place + at) (top i.stack) in
@@ -219,7 +214,7 @@ module _ {b : Block} {d work : List ℕ} {at : ℕ} {w : Walk} (i : Inv b d work
           climbs = climbs_push i.words n (b.place + at) i.stack i.long i.climbs;
         }
 
-    pub at_close : turn ≡ Closes → Inv b d work next (closed_by w (get_or work (NODE_WORDS * w.node + 1) 0))
+    pub at_close : turn ≡ Ok Closes → Inv b d work next (closed_by w (parent_in work w))
     at_close e =
         let p = closes_room e in
         let c = top_open i.words w.count i.stack i.climbs (omega (arith, p, i.depth)) in
@@ -246,7 +241,7 @@ module _ {b : Block} {d work : List ℕ} {at : ℕ} {w : Walk} (i : Inv b d work
           climbs = c.2;
         }
 
-    pub at_stay : turn ≡ Stays → Inv b d work next w
+    pub at_stay : turn ≡ Ok Stays → Inv b d work next w
     at_stay e =
         let o : turn_of kind ≡ Stays = subst (Only (turn_of kind)) e does.only in
         record {
@@ -274,7 +269,7 @@ module _ {b : Block} {d work : List ℕ} {at : ℕ} {w : Walk} (i : Inv b d work
       ∙ ap (λ (x : List ℕ). i.words ++ x) (sym (starts_none i.stack w.count) ∙ ap (λ (es : List Event). starts_of (nodes_from i.stack w.count es)) (sym e))
       ∙ i.rows
 
-  finished : (token : Token) (answer : Answer) (next : events.Walk → Verdict) → events_at b at ≡ []
+  finished : (token : Token) (answer : Result ℕ Refusal) (next : events.Walk → Verdict) → events_at b at ≡ []
       → judged_at b v at ≡ after next (b.place + at) (on_token b v at token)
       → meaning answer ≡ (after next (b.place + at) (on_token b v at token) then gives w.count)
       → Shaped b d work answer
@@ -286,10 +281,10 @@ module _ {b : Block} {d work : List ℕ} {at : ℕ} {w : Walk} (i : Inv b d work
         table = subst (λ (ws : List ℕ). Leaves answer ws d work) words (leaves answer i.words d work short i.here);
       }
 
-  pub at_end : (token : Token) (answer : Answer) → token ≡ token_at b.structure at → OneOf (1 ∷ 2 ∷ []) (tag_of tokens.the_type token)
+  pub at_end : (token : Token) (answer : Result ℕ Refusal) → token ≡ token_at b.structure at → ((kind : Kind) (next : ℕ) → token ≡ Item kind next → ⊥)
       → Ends w (b.place + at) (eqb (at + 4) (length b.structure)) token answer
       → Shaped b d work answer
-  at_end (Item kind next) answer is h e = absurd (miss (1 ∷ 2 ∷ []) 0 tt h)
+  at_end (Item kind next) answer is h e = absurd (h kind next refl)
   at_end End answer is h e =
       finished End answer (λ (u : events.Walk). judge b u []) (events_end b at i.inside (sym is)) (judged_end b at i.inside v (sym is)) (e v stands (λ (u : events.Walk). judge b u []))
   at_end Cut answer is h e =

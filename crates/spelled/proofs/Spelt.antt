@@ -5,14 +5,17 @@ use Prim.Native.Nat.{ℕ, zero, suc, ◌+◌, ◌*◌, ◌≤◌, ◌<◌}
 use native.Mathlib.Omega.{arith}
 use native.Mathlib.Nat.{zero-add, mul-le-mul_right}
 use native.Mathlib.Numerals.{add-one}
-use lib.ListN.{length, get_or, take, drop, length-append, length-drop}
-use lib.Seq.{take-suc, get_or-drop}
+use lib.ListN.{length, get_or, take, drop, length-append, length-take}
+use lib.Seq.{take-suc}
+use Rattle.std.proofs.Common.{take_all}
 use Rattle.rules.specs.Ceilings.{blob_ceiling, node_ceiling, work_words}
 use Rattle.rules.specs.Octets.{Bytes, closed, lay}
 use Rattle.rules.specs.Blob.{Block}
 use Rattle.rules.specs.Tree.{Tree, node, path, spell}
 use Rattle.rules.specs.Listing.{paths_bytes}
+use Rattle.rules.specs.Laws.Constants.{LIST_AT}
 use Rattle.rules.specs.Space.{list_at}
+use Rattle.rules.proofs.Laws.Constants.{list_at_lem}
 use Rattle.rules.proofs.Laws.Tests.{by_le}
 use Rattle.rules.proofs.Laws.Octets.{lay_lay}
 use Rattle.rules.proofs.Laws.Kept.{stack_behind, names_behind, names_inside, longest, paths_counted}
@@ -26,7 +29,7 @@ use Rattle.spelled.specs.Lists.{list_bytes}
 more_times : (k n x : ℕ) → k ≤ n → k * x ≤ n * x
 more_times k n x h = mul-le-mul_right x h
 
-once_more : (k x len n : ℕ) → len ≤ k * x → n < x → len + n + 1 ≤ (k + 1) * x
+once_more : (k x len n : ℕ) → len ≤ k * x → n < x → len + (n + 1) ≤ (k + 1) * x
 once_more k x len n l m = rw (add-one k) (omega arith)
 
 up_to : {a b c d : ℕ} → a ≤ b → b ≤ c → c < d → a < d
@@ -49,10 +52,10 @@ module _ (b : Block) (ws : List ℕ) (count : ℕ) (h : length b.structure ≤ b
 
 -- as many paths as there are nodes at the most, each closed by NUL, and one more: how long they are, and that they are counted
 module _ (k len n : ℕ) (h : k < node_ceiling) (l : len ≤ k * (longest + 1)) (m : n ≤ longest) where
-  pub sum_more : len + n + 1 ≤ (k + 1) * (longest + 1)
+  pub sum_more : len + (n + 1) ≤ (k + 1) * (longest + 1)
   sum_more = once_more k (longest + 1) len n l (omega arith)
 
-  pub sum_fits : len + n + 1 < 18446744073709551616
+  pub sum_fits : len + (n + 1) < 18446744073709551616
   sum_fits = up_to sum_more (more_times (k + 1) node_ceiling (longest + 1) (omega arith)) paths_counted
 
 -- ---- the list, path by path
@@ -62,25 +65,38 @@ unfolding paths_bytes
 map_last t [] x = append-nil (closed (path t x))
 map_last t (y ∷ l) x = rw (map_last t l x) (sym (append_assoc (closed (path t y)) (paths_bytes (map (path t) l)) (closed (path t x))))
 
-module _ (t : Tree) (ws : List ℕ) (room : work_words ≤ length ws) (k : ℕ) (h : k < node_ceiling) (i : ℕ) (e : i ≡ get_or ws (list_at + k) 0) where
-  grown : take (k + 1) (drop list_at ws) ≡ take k (drop list_at ws) ++ (i ∷ [])
-  grown =
-      let f : i ≡ get_or (drop list_at ws) k 0 = e ∙ sym (get_or-drop list_at ws k 0) in
-      rw (add-one k, f) (take-suc (drop list_at ws) k 0 (simp length-drop (omega (arith, stack_behind, names_behind, names_inside))))
+-- the paths of the first k of these nodes
+abbrev pub first_paths : Tree → List ℕ → (k : ℕ) → Bytes
+first_paths t xs k = paths_bytes (map (path t) (take k xs))
 
-  pub bytes_more : list_bytes t ws (k + 1) ≡ list_bytes t ws k ++ closed (path t i)
-  bytes_more = ap (λ (l : List ℕ). paths_bytes (map (path t) l)) grown ∙ map_last t (take k (drop list_at ws)) i
+module _ (t : Tree) (xs : List ℕ) (k : ℕ) (h : k < length xs) (i : ℕ) (e : i ≡ get_or xs k 0) where
+  bytes_more : first_paths t xs (k + 1) ≡ first_paths t xs k ++ closed (path t i)
+  bytes_more =
+      ap (λ (l : List ℕ). paths_bytes (map (path t) l)) (rw (add-one k, e) (take-suc xs k 0 h)) ∙ map_last t (take k xs) i
 
-  pub length_more : (len n : ℕ) → len ≡ length (list_bytes t ws k) → n ≡ length (path t i) → len + n + 1 ≡ length (list_bytes t ws (k + 1))
+  pub length_more : (len n : ℕ) → len ≡ length (first_paths t xs k) → n ≡ length (path t i) → len + (n + 1) ≡ length (first_paths t xs (k + 1))
   length_more len n f g =
-      let q : length (list_bytes t ws (k + 1)) ≡ length (list_bytes t ws k) + length (closed (path t i)) = ap length bytes_more ∙ length-append (list_bytes t ws k) (closed (path t i)) in
+      let q : length (first_paths t xs (k + 1)) ≡ length (first_paths t xs k) + length (closed (path t i)) = ap length bytes_more ∙ length-append (first_paths t xs k) (closed (path t i)) in
       let c : length (closed (path t i)) ≡ length (path t i) + 1 = length-append (path t i) (0 ∷ []) in
       omega arith
 
-  pub laid_more : (old new newer : Bytes) (at : ℕ) → at ≡ length (list_bytes t ws k) → new ≡ lay old 0 (list_bytes t ws k) → newer ≡ lay new at (closed (path t i)) → newer ≡ lay old 0 (list_bytes t ws (k + 1))
+  pub laid_more : (old new newer : Bytes) (at : ℕ) → at ≡ length (first_paths t xs k) → new ≡ lay old 0 (first_paths t xs k) → newer ≡ lay new at (closed (path t i)) → newer ≡ lay old 0 (first_paths t xs (k + 1))
   laid_more old new newer at f g l =
-      l ∙ rw (g, f, bytes_more) (ap (λ (a : ℕ). lay (lay old 0 (list_bytes t ws k)) a (closed (path t i))) (sym (zero-add (length (list_bytes t ws k)))) ∙ lay_lay old 0 (list_bytes t ws k) (closed (path t i)))
+      l ∙ rw (g, f, bytes_more) (ap (λ (a : ℕ). lay (lay old 0 (first_paths t xs k)) a (closed (path t i))) (sym (zero-add (length (first_paths t xs k)))) ∙ lay_lay old 0 (first_paths t xs k) (closed (path t i)))
 
-pub bytes_none : (t : Tree) (ws : List ℕ) → list_bytes t ws 0 ≡ []
+pub paths_none : (t : Tree) (xs : List ℕ) → first_paths t xs 0 ≡ []
 unfolding paths_bytes
-bytes_none t ws = refl
+paths_none t xs = refl
+
+-- ---- the nodes listed, as they stand in the work space
+
+-- they stand inside it
+pub listed_inside : (n len : ℕ) → n ≤ node_ceiling → work_words ≤ len → LIST_AT + n ≤ len
+listed_inside n len h l = omega (arith, stack_behind, names_behind, names_inside, list_at_lem)
+
+module _ (t : Tree) (ws : List ℕ) (n : ℕ) (xs : List ℕ) (e : xs ≡ take n (drop list_at ws)) where
+  pub listed_few : length xs ≤ n
+  listed_few = omega (arith, ap length e, length-take n (drop list_at ws))
+
+  pub paths_all : (k : ℕ) → length xs ≤ k → first_paths t xs k ≡ list_bytes t ws n
+  paths_all k h = ap (λ (l : List ℕ). paths_bytes (map (path t) l)) (take_all k xs h ∙ e)

@@ -4,9 +4,7 @@ use mathlib.Core.List.{List, [], ◌∷◌}
 use Prim.Native.Nat.{ℕ, zero, suc, ◌+◌, ◌≤◌, ◌<◌}
 use native.Mathlib.Omega.{arith}
 use lib.ListN.{length}
-use types.Run.{OneOf, miss}
-use denote.Enum.Declared.{tag_of}
-use Rattle.rules.specs.contracts.Token as tokened
+use mathlib.Core.Logic.{◌⊎◌, inl, inr}
 use Rattle.rules.specs.Octets.{Bytes, part}
 use Rattle.rules.specs.Blob.{Block}
 use Rattle.rules.specs.Tokens.{token_at, following, tokens_from}
@@ -21,8 +19,8 @@ use Rattle.rules.proofs.Laws.Tokens.{tokens_item, Ahead, token_ahead}
 use Rattle.rules.specs.Laws.Events.{events_at}
 use Rattle.rules.proofs.Laws.Events.{events_item, events_end, events_cut}
 use Rattle.rules.specs.Laws.Tabled.{props_behind, props_at}
+use Rattle.std.specs.Prelude.{Option, Some, None}
 use Rattle.tokens.specs.declared.Property as next
-use Rattle.tokens.specs.declared.Property.TheVariants.{Here, Missing}
 use Rattle.tokens.specs.Properties.{behind_token, behind_at, held_by, property_in, property_at}
 
 -- ---- a turn
@@ -33,11 +31,11 @@ unfolding property_at property_in tokens_at tokens_from
 turn s at = refl
 
 module _ (s : Bytes) (at : ℕ) (r : Token) (e : r ≡ token_at s at) where
-  pub property_stop : OneOf (1 ∷ 2 ∷ []) (tag_of tokened.the_type r) → property_at s at ≡ Missing
-  property_stop h = turn s at ∙ by (token_at s at) (subst (λ (t : Token). OneOf (1 ∷ 2 ∷ []) (tag_of tokened.the_type t)) e h)
+  pub property_stop : ((kind : Kind) (next : ℕ) → r ≡ Item kind next → ⊥) → property_at s at ≡ None
+  property_stop h = turn s at ∙ by (token_at s at) (subst (λ (t : Token). (kind : Kind) (next : ℕ) → t ≡ Item kind next → ⊥) e h)
     where
-      by : (t : Token) → OneOf (1 ∷ 2 ∷ []) (tag_of tokened.the_type t) → held_by at t (property_in (following (tokens_from (length s) s) t)) ≡ Missing
-      by (Item kind next) h = absurd (miss (1 ∷ 2 ∷ []) 0 tt h)
+      by : (t : Token) → ((kind : Kind) (next : ℕ) → t ≡ Item kind next → ⊥) → held_by at t (property_in (following (tokens_from (length s) s) t)) ≡ None
+      by (Item kind next) h = absurd (h kind next refl)
       by End h = refl
       by Cut h = refl
 
@@ -47,14 +45,17 @@ module _ (s : Bytes) (at : ℕ) (r : Token) (e : r ≡ token_at s at) where
         turn s at
         ∙ ap (λ (t : Token). held_by at t (property_in (following (tokens_from (length s) s) t))) (sym e ∙ f ∙ ap (λ (l : Kind). Item l next) g)
 
-    pub property_here : (len name value : ℕ) → kind ≡ Prop len name value → property_at s at ≡ Here at len name value next
+    pub property_here : (len name value : ℕ) → kind ≡ Prop len name value → property_at s at ≡ Some (record { at = at; len = len; name = name; value = value; next = next })
     property_here len name value g = by_kind (Prop len name value) g
 
-    pub property_begin : (len : ℕ) → kind ≡ Begin len → property_at s at ≡ Missing
+    pub property_begin : (len : ℕ) → kind ≡ Begin len → property_at s at ≡ None
     property_begin len g = by_kind (Begin len) g
 
-    pub property_end : kind ≡ EndNode → property_at s at ≡ Missing
+    pub property_end : kind ≡ EndNode → property_at s at ≡ None
     property_end g = by_kind EndNode g
+
+    pub property_past : ((len : ℕ) × kind ≡ Begin len) ⊎ kind ≡ EndNode → property_at s at ≡ None
+    property_past g = elim g [ inl h ↦ property_begin h.0 h.1 | inr h ↦ property_end h ]
 
     pub property_nop : kind ≡ Nop → property_at s at ≡ property_at s next
     unfolding property_at property_in
@@ -69,13 +70,13 @@ pub record Found (s : Bytes) (from at len name value next : ℕ) : Type 0 where
   pub ahead : from ≤ at
   pub token : token_at s at ≡ Item (Prop len name value) next
 
-abbrev Finds : Bytes → (from : ℕ) → next.Property → Type 0
-Finds s from (Here at len name value next) = Found s from at len name value next
-Finds s from Missing = Unit {0}
+abbrev Finds : Bytes → (from : ℕ) → Option next.Property → Type 0
+Finds s from (Some p) = Found s from p.at p.len p.name p.value p.next
+Finds s from None = Unit {0}
 
-later : (s : Bytes) (from further : ℕ) (p : next.Property) → from ≤ further → Finds s further p → Finds s from p
-later s from further (Here at len name value next) h g = record { ahead = omega (arith, g.ahead); token = g.token }
-later s from further Missing h g = tt
+later : (s : Bytes) (from further : ℕ) (p : Option next.Property) → from ≤ further → Finds s further p → Finds s from p
+later s from further (Some p) h g = record { ahead = omega (arith, g.ahead); token = g.token }
+later s from further None h g = tt
 
 -- by the first token; `go` says it of each later place
 found_by : (s : Bytes) (at : ℕ) (go : (k : ℕ) → at + 4 ≤ k → k ≤ length s → Finds s k (property_at s k)) (t : Token) → token_at s at ≡ t → Ahead s at t
@@ -95,10 +96,10 @@ found (suc f) s at h = found_by s at (λ k l m. found f s k (omega arith)) (toke
 
 -- ---- what it says of the node's properties
 
-abbrev told_by : Block → next.Property → List Property
-told_by b (Here at len name value next) =
-    record { place = b.place + at; name = string_at b.strings name; value = part b.structure value len } ∷ props_of (events_at b next)
-told_by b Missing = []
+abbrev told_by : Block → Option next.Property → List Property
+told_by b (Some p) =
+    record { place = b.place + p.at; name = string_at b.strings p.name; value = part b.structure p.value p.len } ∷ props_of (events_at b p.next)
+told_by b None = []
 
 module _ (b : Block) where
   abbrev s : Bytes
@@ -156,34 +157,29 @@ module _ (s : Bytes) (at : ℕ) (r : Token) (e : r ≡ token_at s at) where
   unfolding behind_at
   behind_item kind next f = sym (ap (behind_token (length s)) (sym e ∙ f))
 
-  pub behind_stop : OneOf (1 ∷ 2 ∷ []) (tag_of tokened.the_type r) → length s ≡ behind_at s at
+  pub behind_stop : r ≡ End ⊎ r ≡ Cut → length s ≡ behind_at s at
   unfolding behind_at
-  behind_stop h = by r h ∙ ap (behind_token (length s)) e
-    where
-      by : (t : Token) → OneOf (1 ∷ 2 ∷ []) (tag_of tokened.the_type t) → length s ≡ behind_token (length s) t
-      by (Item kind next) h = absurd (miss (1 ∷ 2 ∷ []) 0 tt h)
-      by End h = refl
-      by Cut h = refl
+  behind_stop h = elim h [ inl f ↦ sym (ap (behind_token (length s)) (sym e ∙ f)) | inr f ↦ sym (ap (behind_token (length s)) (sym e ∙ f)) ]
 
 -- ---- a property in hand
 
-module _ (s : Bytes) (from : ℕ) (r : next.Property) (e : r ≡ property_at s from) (at len name value next : ℕ) (f : r ≡ Here at len name value next) where
-  pub here_found : Found s from at len name value next
+module _ (s : Bytes) (from : ℕ) (r : Option next.Property) (e : r ≡ property_at s from) (p : next.Property) (f : r ≡ Some p) where
+  pub here_found : Found s from p.at p.len p.name p.value p.next
   here_found = subst (Finds s from) (sym e ∙ f) (found (suc (length s)) s from (omega arith))
 
-  pub here_ahead : (from < next) × (next ≤ length s)
+  pub here_ahead : (from < p.next) × (p.next ≤ length s)
   here_ahead =
-      let h : Ahead s at (Item (Prop len name value) next) = subst (Ahead s at) here_found.token (token_ahead s at) in
+      let h : Ahead s p.at (Item (Prop p.len p.name p.value) p.next) = subst (Ahead s p.at) here_found.token (token_ahead s p.at) in
       (omega (arith, here_found.ahead, h.0), h.1)
 
-module _ (b : Block) (from : ℕ) (i : from ≤ length b.structure) (r : next.Property) (e : r ≡ property_at b.structure from) where
-  read : (q : next.Property) → r ≡ q → props_of (events_at b from) ≡ told_by b q
+module _ (b : Block) (from : ℕ) (i : from ≤ length b.structure) (r : Option next.Property) (e : r ≡ property_at b.structure from) where
+  read : (q : Option next.Property) → r ≡ q → props_of (events_at b from) ≡ told_by b q
   read q f = told b (suc (length b.structure)) from i (omega arith) ∙ ap (told_by b) (sym e ∙ f)
 
-  pub props_none : r ≡ Missing → props_of (events_at b from) ≡ []
-  props_none f = read Missing f
+  pub props_none : r ≡ None → props_of (events_at b from) ≡ []
+  props_none f = read None f
 
-  pub props_here : (at len name value next : ℕ) → r ≡ Here at len name value next
+  pub props_here : (p : next.Property) → r ≡ Some p
       → props_of (events_at b from)
-      ≡ record { place = b.place + at; name = string_at b.strings name; value = part b.structure value len } ∷ props_of (events_at b next)
-  props_here at len name value next f = read (Here at len name value next) f
+      ≡ record { place = b.place + p.at; name = string_at b.strings p.name; value = part b.structure p.value p.len } ∷ props_of (events_at b p.next)
+  props_here p f = read (Some p) f

@@ -7,19 +7,15 @@ ghost use Rattle.tokens.specs.Properties.{behind_at, property_at};
 
 use rules::{FDT_BEGIN_NODE, FDT_END, FDT_END_NODE, FDT_NOP, FDT_PROP, Kind, Token};
 
-// The next property of a node: where it stands, the length of its value, its name's offset in the strings block, where its value
-// begins, and where what follows it begins.
+// A property of a node: where it stands, the length of its value, its name's offset in the strings block, where its value begins,
+// and where what follows it begins.
 #[derive(Clone, Copy)]
-pub enum Property {
-    Here {
-        at: usize,
-        len: usize,
-        name: usize,
-        value: usize,
-        next: usize,
-    },
-    // The node has no further property.
-    Missing,
+pub struct Property {
+    pub at: usize,
+    pub len: usize,
+    pub name: usize,
+    pub value: usize,
+    pub next: usize,
 }
 
 // BEGIN, whose name begins at b. A name without NUL has no room for one, and so is cut.
@@ -66,10 +62,7 @@ fn prop_at(structure: &[u8], b: usize) -> Token
 pub fn token_at(structure: &[u8], at: usize) -> Token
     ensures { result ≡ token_at structure.now at }
 {
-    if structure.len() < 4 {
-        return Token::Cut;
-    }
-    if structure.len() - 4 < at {
+    if structure.len() < 4 || structure.len() - 4 < at {
         return Token::Cut;
     }
     let tag = octets::word(structure, at);
@@ -94,40 +87,31 @@ pub fn token_at(structure: &[u8], at: usize) -> Token
 pub fn behind(structure: &[u8], at: usize) -> usize
     ensures { result ≡ behind_at structure.now at }
 {
-    let Token::Item { kind: _, next } = token_at(structure, at) else {
-        return structure.len();
-    };
-    next
+    match token_at(structure, at) {
+        Token::Item { next, .. } => next,
+        Token::End | Token::Cut => structure.len(),
+    }
 }
 
-// The property that stands at a place or behind NOPs there: Here, or Missing where another token comes first.
-pub fn property_at(structure: &[u8], from: usize) -> Property
+// The property that stands at a place or behind NOPs there; None where another token comes first, or no item stands there.
+pub fn property_at(structure: &[u8], from: usize) -> Option<Property>
     ensures { result ≡ property_at structure.now from }
 {
     let mut at = from;
-    loop {
-        let Token::Item { kind, next } = token_at(structure, at) else {
-            return Property::Missing;
-        };
+    while let Token::Item { kind, next } = token_at(structure, at) {
         match kind {
-            Kind::Nop => {
-                at = next;
-            }
+            Kind::Nop => at = next,
             Kind::Prop { len, name, value } => {
-                return Property::Here {
+                return Some(Property {
                     at,
                     len,
                     name,
                     value,
                     next,
-                };
+                });
             }
-            Kind::Begin { len: _ } => {
-                return Property::Missing;
-            }
-            Kind::EndNode => {
-                return Property::Missing;
-            }
+            Kind::Begin { .. } | Kind::EndNode => return None,
         }
     }
+    None
 }

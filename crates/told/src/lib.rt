@@ -4,51 +4,64 @@
 ghost use Rattle.std.specs.Prelude.{◌≡◌};
 ghost use Rattle.reader.specs.Answers.{inside_number, place_of as readerPlace};
 ghost use Rattle.derive.specs.Answers.{number_of, place_of};
+ghost use Rattle.device.specs.Answers.{number_of as list_number, place_of as list_place};
 
 use derive::Refusal;
+use reader::Numbered;
 
-// The number of a reader's refusal that is carried inside. 40 is not carried: it is the derivation's own.
-fn reader_number(refusal: reader::Refusal) -> u64
-    ensures { result ≡ inside_number refusal }
+// The number and the place of a reader's refusal that is carried inside. 40 is not carried: it is the derivation's own.
+fn carried(refusal: reader::Refusal) -> Numbered
+    ensures number { result.number ≡ inside_number refusal }
+    ensures place { result.place ≡ readerPlace refusal }
 {
-    let n = reader::told(refusal).number;
-    if n == 40 { 0 } else { n }
+    let Numbered { number: n, place } = reader::told(refusal);
+    let number = if n == 40 { 0 } else { n };
+    Numbered { number, place }
 }
 
-fn reader_place(refusal: reader::Refusal) -> usize
-    ensures { result ≡ readerPlace refusal }
+// The number and the place of a refusal: 1 to 12, or 40 to 46; and an offset, an index, or the bytes that were needed.
+pub fn told(refusal: Refusal) -> Numbered
+    ensures number { result.number ≡ number_of refusal }
+    ensures place { result.place ≡ place_of refusal }
 {
-    reader::told(refusal).place
+    let (number, place) = match refusal {
+        Refusal::NoSpace => (40, 0),
+        Refusal::Reader(r) => return carried(r),
+        Refusal::Lists { at } => (41, at),
+        Refusal::Configured { at } => (42, at),
+        Refusal::Register { at } => (43, at),
+        Refusal::Unmet { at } => (44, at),
+        Refusal::List { needed } => (45, needed),
+        Refusal::Guest { needed } => (46, needed),
+    };
+    Numbered { number, place }
 }
 
-// The number of a refusal: 1 to 12, or 40 to 46.
+// The number of a refusal, as `told` has it.
 pub fn number(refusal: Refusal) -> u64
     ensures { result ≡ number_of refusal }
 {
-    match refusal {
-        Refusal::NoSpace => 40,
-        Refusal::Reader(r) => reader_number(r),
-        Refusal::Lists { at: _ } => 41,
-        Refusal::Configured { at: _ } => 42,
-        Refusal::Register { at: _ } => 43,
-        Refusal::Unmet { at: _ } => 44,
-        Refusal::List { needed: _ } => 45,
-        Refusal::Guest { needed: _ } => 46,
-    }
+    told(refusal).number
 }
 
-// The place of a refusal: an offset, an index, or the bytes that were needed.
+// The place of a refusal, as `told` has it.
 pub fn place(refusal: Refusal) -> usize
     ensures { result ≡ place_of refusal }
 {
-    match refusal {
-        Refusal::NoSpace => 0,
-        Refusal::Reader(r) => reader_place(r),
-        Refusal::Lists { at } => at,
-        Refusal::Configured { at } => at,
-        Refusal::Register { at } => at,
-        Refusal::Unmet { at } => at,
-        Refusal::List { needed } => needed,
-        Refusal::Guest { needed } => needed,
-    }
+    told(refusal).place
+}
+
+// The number and the place of a refusal of the list, asked for alone, as `told` has them: 1 to 12, 40 to 42, or 45.
+pub fn told_of_list(refusal: device::Refusal) -> Numbered
+    ensures number { result.number ≡ list_number refusal }
+    ensures place { result.place ≡ list_place refusal }
+{
+    let (number, place) = match refusal {
+        device::Refusal::NoSpace => (40, 0),
+        device::Refusal::Reader(r) => return carried(r),
+        device::Refusal::Lists { at } => (41, at),
+        device::Refusal::Configured { at } => (42, at),
+        device::Refusal::List { needed } => (45, needed),
+    };
+    Numbered { number, place }
 }

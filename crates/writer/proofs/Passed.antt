@@ -1,6 +1,8 @@
 -- What is known of a state and its buffers once a call's tests have passed, and what a call then answers and leaves.
-use Rattle.std.specs.Prelude.{if◌then◌else◌}
-use mathlib.Core.Path.{◌≡◌, refl, ap, ◌∙◌}
+use Rattle.std.specs.Prelude.{Result, Ok, Err, MatchResult, if◌then◌else◌}
+use Rattle.std.specs.Result.{IsErrAnd}
+use Rattle.std.proofs.lemmas.Result.{err_from_is_err_and}
+use mathlib.Core.Path.{◌≡◌, refl, sym, ap, ◌∙◌}
 use mathlib.Core.Bool.{Bool, true, false, not, ◌||◌}
 use mathlib.Core.List.{List, [], ◌∷◌, ◌++◌}
 use Prim.Native.Nat.{ℕ, ◌+◌, ◌≤◌, ◌<◌}
@@ -12,13 +14,44 @@ use borrow.Author.Tests.{ltb-false, leb-false, eqb-true, eqb-false, not-false}
 use Rattle.rules.specs.Ceilings.{blob_ceiling, open_ceiling}
 use Rattle.rules.specs.Octets.{Bytes, be32, put, lay, has_nul}
 use Rattle.rules.specs.Names.{node_name_valid}
-use Rattle.rules.specs.Outcome.{refuses, Verdict, passes, settled, Test, first}
+use Rattle.rules.specs.Outcome.{Outcome, gives, refuses, Verdict, passes, settled, Test, first}
 use Rattle.rules.specs.Writer.{State, answer, room, no_room, wrong_state, test, begin_bytes, end_bytes, begin_judged, end_judged, finish_judged, finish_data, total, header_of, strings_of}
 use Rattle.rules.proofs.Laws.Tests.{or_false}
 use Rattle.rules.proofs.Laws.Octets.{lay_put, length_lay, length_be32}
 use Rattle.rules.proofs.Laws.Writer.{laid_on}
 use Rattle.rules.proofs.Laws.Header.{length_header}
+use Rattle.judge.specs.Meaning.{number_of}
+use Rattle.judge.specs.Judged.{outcome_of}
+use Rattle.judge.specs.declared.Error.{Error}
 use Rattle.judge.proofs.Possible.{Possible, possible}
+use Rattle.writer.specs.declared.FdtWriter.{FdtWriter}
+use Rattle.writer.specs.declared.Refused.{Refused}
+use Rattle.writer.specs.Meaning.{state_of, meaning}
+
+-- ---- what a call's tests answered, as `or_refused` passes it on
+
+abbrev pub PassedOn : {A : Type 0} → FdtWriter → Result A Error → Result A Refused → Type 0
+PassedOn w r s = MatchResult r (λ x. s ≡ Ok x) (λ e. s ≡ Err (record { writer = w; error = e }))
+
+pub was_ok : {A : Type 0} (w : FdtWriter) (r : Result A Error) (s : Result A Refused) → PassedOn w r s → (a : A) → s ≡ Ok a → r ≡ Ok a
+was_ok w (Ok x) s h a t =
+    let k : x ≡ a = cc (sym h ∙ t) in
+    ap (λ y. Ok y) k
+was_ok w (Err e) s h a t = cc
+
+-- the same in the words of the tests
+pub judged_ok : {A : Type 0} (w : FdtWriter) (r : Result A Error) (s : Result A Refused) → PassedOn w r s → (a : A) → s ≡ Ok a → (v : Outcome A) → outcome_of r ≡ v → gives a ≡ v
+judged_ok w r s h a t v e = ap outcome_of (sym (was_ok w r s h a t)) ∙ e
+
+-- and with a refusal the state as it was
+pub was_err : {A : Type 0} (w : FdtWriter) (r : Result A Error) (s : Result A Refused) → PassedOn w r s → (b : Refused) → s ≡ Err b
+    → (out : Result FdtWriter Refused) → IsErrAnd out (λ y. y ≡ b)
+    → (e : Error) × (r ≡ Err e) × (meaning out ≡ record { verdict = refuses (number_of e) 0; state = state_of w })
+was_err w (Ok x) s h b t out f = let k : ⊥ = cc in absurd k
+was_err w (Err e) s h b t out f =
+    let p = err_from_is_err_and out f in
+    let k : p.0 ≡ record { writer = w; error = e } = cc (p.2) in
+    (e, refl, ap meaning (p.1 ∙ ap (λ (y : Refused). Err y) k))
 
 -- ---- verdicts
 

@@ -1,4 +1,5 @@
 -- `property_phandle`: what its call answers and leaves.
+use Rattle.std.specs.Prelude.{Result, Ok, Err}
 use mathlib.Core.Path.{◌≡◌, refl, sym, ap, ◌∙◌}
 use mathlib.Core.Bool.{false}
 use mathlib.Core.List.{List, [], ◌∷◌, ◌++◌}
@@ -12,10 +13,8 @@ use Rattle.rules.specs.Lists.{one_of}
 use Rattle.rules.specs.Outcome.{gives, refuses, Verdict, passes, first, ◌then◌}
 use Rattle.rules.specs.Writer.{State, wrong_state, name_offset, test, strings_of, growth, property_bytes, property_at, property_tests, phandle_name, phandle_judged, with_phandle, phandle, phandle_data, phandle_strings, phandle_table}
 use Rattle.judge.specs.Meaning.{number_of}
-use Rattle.judge.specs.Judged.{place_of, sized, placed, phandle_placed, grown}
+use Rattle.judge.specs.Judged.{outcome_of, sized, placed, phandle_placed, grown}
 use Rattle.judge.specs.declared.Error.{Error}
-use Rattle.judge.specs.declared.Place.{Place}
-use Rattle.judge.specs.declared.Place.TheVariants.{At, Not}
 use Rattle.judge.proofs.Properties.{gives_judged, refuses_judged}
 use Rattle.judge.proofs.Phandles.{table_test, phandle_size, phandle_on}
 use Rattle.writer.proofs.Passed.{all_passed, answer_refused, answer_done, kept, changed}
@@ -66,18 +65,18 @@ was_noted w lent strings phandles value offset e =
     }
 
 -- the same of what the judge answered
-pub at_noted : (w : State) (lent : ℕ) (strings : Bytes) (phandles : List ℕ) (value offset : ℕ) (x : State) → x ≡ w → (r : Place) → r ≡ At offset
-    → place_of r ≡ phandle_placed x lent strings phandles value → Noted w lent strings phandles value offset
+pub at_noted : (w : State) (lent : ℕ) (strings : Bytes) (phandles : List ℕ) (value offset : ℕ) (x : State) → x ≡ w → (r : Result ℕ Error) → r ≡ Ok offset
+    → outcome_of r ≡ phandle_placed x lent strings phandles value → Noted w lent strings phandles value offset
 at_noted w lent strings phandles value offset x h r t e =
-    was_noted w lent strings phandles value offset (ap place_of (sym t) ∙ e ∙ ap (λ (y : State). phandle_placed y lent strings phandles value) h)
+    was_noted w lent strings phandles value offset (ap outcome_of (sym t) ∙ e ∙ ap (λ (y : State). phandle_placed y lent strings phandles value) h)
 
 -- ---- what a call answers and leaves
 
-module _ (w : State) (d strings : Bytes) (phandles : List ℕ) (value : ℕ) (y : State) (same : y ≡ w) (r : Place) (f : place_of r ≡ phandle_placed y (length d) strings phandles value) where
-  judged_so : place_of r ≡ phandle_placed w (length d) strings phandles value
+module _ (w : State) (d strings : Bytes) (phandles : List ℕ) (value : ℕ) (y : State) (same : y ≡ w) (r : Result ℕ Error) (f : outcome_of r ≡ phandle_placed y (length d) strings phandles value) where
+  judged_so : outcome_of r ≡ phandle_placed w (length d) strings phandles value
   judged_so = f ∙ ap (λ (v : State). phandle_placed v (length d) strings phandles value) same
 
-  pub phandle_refused : (e : Error) → r ≡ Not e
+  pub phandle_refused : (e : Error) → r ≡ Err e
       → (record { verdict = refuses (number_of e) 0; state = w } ≡ phandle w (length d) strings phandles value)
       × ((d ≡ phandle_data w d strings phandles value)
       × ((strings ≡ phandle_strings w (length d) strings phandles value)
@@ -85,10 +84,10 @@ module _ (w : State) (d strings : Bytes) (phandles : List ℕ) (value : ℕ) (y 
   unfolding phandle_placed phandle phandle_data phandle_strings phandle_table
   phandle_refused e t =
       let n = number_of e in
-      let v : refuses n 0 ≡ phandle_judged w (length d) strings phandles value = refuses_judged _ n _ (ap place_of (sym t) ∙ judged_so) in
+      let v : refuses n 0 ≡ phandle_judged w (length d) strings phandles value = refuses_judged _ n _ (ap outcome_of (sym t) ∙ judged_so) in
       (answer_refused _ n w (with_phandle w strings value) v, (kept _ n d _ v, (kept _ n strings _ v, kept _ n phandles _ v)))
 
-  pub phandle_done : (offset : ℕ) → r ≡ At offset → (d₁ s₁ : Bytes) (t₁ : List ℕ) (x : State)
+  pub phandle_done : (offset : ℕ) → r ≡ Ok offset → (d₁ s₁ : Bytes) (t₁ : List ℕ) (x : State)
       → d₁ ≡ lay d w.data_length (property_bytes offset (be32 value))
       → s₁ ≡ lay strings w.strings_length (grown offset w.strings_length phandle_name)
       → t₁ ≡ lay phandles w.phandle_count (value ∷ [])
@@ -99,7 +98,7 @@ module _ (w : State) (d strings : Bytes) (phandles : List ℕ) (value : ℕ) (y 
       × (t₁ ≡ phandle_table w (length d) strings phandles value)))
   unfolding phandle phandle_data phandle_strings phandle_table
   phandle_done offset t d₁ s₁ t₁ x g h k l =
-      let q = was_noted w (length d) strings phandles value offset (ap place_of (sym t) ∙ judged_so) in
+      let q = was_noted w (length d) strings phandles value offset (ap outcome_of (sym t) ∙ judged_so) in
       let p = q.place in
       let v = q.judged in
       let n = phandle_size w (length d) strings phandles value in (

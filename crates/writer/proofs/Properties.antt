@@ -1,4 +1,5 @@
 -- A property whose tests were judged by its size: what is known where they pass, and what its call answers and leaves.
+use Rattle.std.specs.Prelude.{Result, Ok, Err}
 use mathlib.Core.Path.{◌≡◌, sym, ap, ◌∙◌}
 use mathlib.Core.Bool.{Bool, not}
 use mathlib.Core.List.{[], ◌∷◌}
@@ -13,10 +14,8 @@ use Rattle.rules.specs.Outcome.{gives, refuses, passes}
 use Rattle.rules.specs.Writer.{State, name_offset, no_room, wrong_state, test, strings_of, growth, property_bytes, property_at, property_judged, with_property, property, property_data, property_strings}
 use Rattle.rules.proofs.Laws.Writer.{length_property}
 use Rattle.judge.specs.Meaning.{number_of}
-use Rattle.judge.specs.Judged.{place_of, sized, placed, grown}
+use Rattle.judge.specs.Judged.{outcome_of, sized, placed, grown}
 use Rattle.judge.specs.declared.Error.{Error}
-use Rattle.judge.specs.declared.Place.{Place}
-use Rattle.judge.specs.declared.Place.TheVariants.{At, Not}
 use Rattle.judge.proofs.Possible.{possible}
 use Rattle.judge.proofs.Properties.{gives_judged, refuses_judged, growth_eq}
 use Rattle.writer.specs.Longer.{longer}
@@ -76,28 +75,28 @@ module _ (w : State) (dataLent : ℕ) (strings : Bytes) (own : Bool) (name : Byt
       }
 
 -- the same of what the judge answered
-pub at_place : (w : State) (dataLent : ℕ) (strings : Bytes) (own : Bool) (name : Bytes) (size offset : ℕ) (x : State) → x ≡ w → (r : Place) → r ≡ At offset
-    → place_of r ≡ placed x dataLent strings own name size → Placed w dataLent strings name size offset
+pub at_place : (w : State) (dataLent : ℕ) (strings : Bytes) (own : Bool) (name : Bytes) (size offset : ℕ) (x : State) → x ≡ w → (r : Result ℕ Error) → r ≡ Ok offset
+    → outcome_of r ≡ placed x dataLent strings own name size → Placed w dataLent strings name size offset
 at_place w dataLent strings own name size offset x h r t e =
-    was_placed w dataLent strings own name size offset (ap place_of (sym t) ∙ e ∙ ap (λ (y : State). placed y dataLent strings own name size) h)
+    was_placed w dataLent strings own name size offset (ap outcome_of (sym t) ∙ e ∙ ap (λ (y : State). placed y dataLent strings own name size) h)
 
 -- ---- what a call answers and leaves
 
-module _ (w : State) (d strings : Bytes) (own : Bool) (name value : Bytes) (size : ℕ) (z : size ≡ 12 + padded (length value)) (y : State) (same : y ≡ w) (r : Place) (f : place_of r ≡ placed y (length d) strings own name size) where
-  judged_so : place_of r ≡ placed w (length d) strings own name size
+module _ (w : State) (d strings : Bytes) (own : Bool) (name value : Bytes) (size : ℕ) (z : size ≡ 12 + padded (length value)) (y : State) (same : y ≡ w) (r : Result ℕ Error) (f : outcome_of r ≡ placed y (length d) strings own name size) where
+  judged_so : outcome_of r ≡ placed w (length d) strings own name size
   judged_so = f ∙ ap (λ (v : State). placed v (length d) strings own name size) same
 
-  pub property_refused : (e : Error) → r ≡ Not e
+  pub property_refused : (e : Error) → r ≡ Err e
       → (record { verdict = refuses (number_of e) 0; state = w } ≡ property w (length d) strings own name value)
       × ((d ≡ property_data w d strings own name value) × (strings ≡ property_strings w (length d) strings own name value))
   unfolding placed property property_data property_strings
   property_refused e t =
       let n = number_of e in
       let v : refuses n 0 ≡ property_judged w (length d) strings own name value =
-      refuses_judged _ n _ (ap place_of (sym t) ∙ judged_so) ∙ sym (by_size w (length d) strings own name value size z) in
+      refuses_judged _ n _ (ap outcome_of (sym t) ∙ judged_so) ∙ sym (by_size w (length d) strings own name value size z) in
       (answer_refused _ n w (with_property w strings name value) v, (kept _ n d _ v, kept _ n strings _ v))
 
-  pub property_done : (offset : ℕ) → r ≡ At offset → (d₁ s₁ : Bytes) (x : State)
+  pub property_done : (offset : ℕ) → r ≡ Ok offset → (d₁ s₁ : Bytes) (x : State)
       → d₁ ≡ lay d w.data_length (property_bytes offset value)
       → s₁ ≡ lay strings w.strings_length (grown offset w.strings_length name)
       → x ≡ longer w size (length (grown offset w.strings_length name))
@@ -105,7 +104,7 @@ module _ (w : State) (d strings : Bytes) (own : Bool) (name value : Bytes) (size
       × ((d₁ ≡ property_data w d strings own name value) × (s₁ ≡ property_strings w (length d) strings own name value))
   unfolding property property_data property_strings
   property_done offset t d₁ s₁ x g h k =
-      let e = ap place_of (sym t) ∙ judged_so in
+      let e = ap outcome_of (sym t) ∙ judged_so in
       let v : passes ≡ property_judged w (length d) strings own name value =
       was_judged w (length d) strings own name size offset e ∙ sym (by_size w (length d) strings own name value size z) in
       let p = was_placed w (length d) strings own name size offset e in

@@ -10,14 +10,16 @@
 mod script;
 mod tell;
 
-use cases::{within, within_words};
-use reservation::{Made, Reservation};
-use rules::BLOB_CEILING;
-use script::{count, field, number, span, word};
-use std::io;
+ghost use Rattle.std.specs.Prelude.{◌<◌};
+
+use cases::within;
+use reservation::Reservation;
+use rules::{BLOB_CEILING, RESERVATION_CEILING};
+use script::{count, field, number, word};
 use std::io::Write;
+use std::{array, io};
 use streams::read_full;
-use writer::{FdtWriter, Written};
+use writer::{FdtWriter, Refused};
 
 // Room for the script.
 const SCRIPT: usize = 65536;
@@ -29,13 +31,16 @@ const STRINGS_LENT: usize = 4096;
 
 const PHANDLES_LENT: usize = 8;
 
+// As many reservations as a start can be lent: one more than it takes.
+const ENTRIES: usize = RESERVATION_CEILING + 1;
+
 // What stands in the buffers before a case.
 const FILL: u8 = 238;
 
 const FILL_WORD: u32 = 7;
 
 // The writer's state, how much of each buffer is lent, and whether the next line is the first of a case.
-#[derive(Drop)]
+#[derive(Clone, Copy)]
 struct Session {
     w: FdtWriter,
     data: usize,
@@ -51,189 +56,82 @@ impl Session {
     }
 }
 
-// The reservation, or r where there is none such.
-fn entry(address: u64, size: u64, r: Reservation) -> Reservation {
-    match Reservation::new(address, size) {
-        Made::Reserved(made) => made,
-        Made::InvalidMemoryReservation => r,
-    }
-}
-
 // One of those of `start COUNT ADDRESS SIZE ..`, or of `rows COUNT`, which lie apart.
-fn nth(line: &[u8], i: usize, r: Reservation) -> Reservation {
-    if i < 32 {
-        if octets::byte(line, 0) == b'r' {
-            return entry((i * 16) as u64, 8, r);
-        }
-        return entry(number(line, i * 2 + 2), number(line, i * 2 + 3), r);
+fn nth(line: &[u8], i: usize) -> Reservation
+    requires { i < 64 }
+{
+    if octets::byte(line, 0) == b'r' {
+        return scripts::reservation((i * 16) as u64, 8);
     }
-    r
+    scripts::reservation(number(line, i * 2 + 2), number(line, i * 2 + 3))
 }
 
-fn entries(line: &[u8], r: Reservation) -> [Reservation; 32] {
-    let mut rs = [r; 32];
-    for i in 0..32 {
-        rs[i] = nth(line, i, r);
-    }
-    rs
-}
-
-fn start(line: &[u8], data: &mut [u8]) -> Written {
-    match Reservation::new(0, 1) {
-        Made::Reserved(r) => {
-            FdtWriter::new_with_mem_reserv(data, entries(line, r), count(line, 1))
-        }
-        Made::InvalidMemoryReservation => FdtWriter::new(data),
-    }
-}
-
-// `alter FIELD NUMBER`: a state with another number.
-fn altered(mut w: FdtWriter, k: u64, n: usize) -> FdtWriter {
-    match k {
-        0 => {
-            w.data_len = n;
-        }
-        1 => {
-            w.off_dt_struct = n;
-        }
-        2 => {
-            w.strings_len = n;
-        }
-        3 => {
-            w.phandles_len = n;
-        }
-        _ => {
-            w.node_depth = n;
-        }
-    }
-    w
+fn start(line: &[u8], data: &mut [u8]) -> Result<FdtWriter, Refused> {
+    let all: [Reservation; ENTRIES] = array::from_fn(|i| nth(line, i));
+    let n = count(line, 1).min(ENTRIES);
+    FdtWriter::new_with_mem_reserv(data, &all[..n])
 }
 
 // Of the numbers of `cells NAME ..` and `doubles NAME ..` there are three or none.
-fn bare(line: &[u8]) -> bool {
-    field(line, 2).len() == 0
-}
-
-fn words(line: &[u8]) -> [u32; 3] {
-    [word(line, 2), word(line, 3), word(line, 4)]
-}
-
-fn some_words(ws: &[u32], none: bool) -> &[u32] {
-    if none {
-        return &ws[..0];
+fn some<'a, T>(line: &[u8], three: &'a [T]) -> &'a [T] {
+    if field(line, 2).is_empty() {
+        &[]
+    } else {
+        three
     }
-    ws
-}
-
-fn cells(line: &[u8], w: FdtWriter, data: &mut [u8], strings: &mut [u8]) -> Written {
-    let ws = words(line);
-    w.property_array_u32(data, strings, field(line, 1), some_words(&ws, bare(line)))
-}
-
-fn longs(line: &[u8]) -> [u64; 3] {
-    [number(line, 2), number(line, 3), number(line, 4)]
-}
-
-fn some_longs(ls: &[u64], none: bool) -> &[u64] {
-    if none {
-        return &ls[..0];
-    }
-    ls
-}
-
-fn doubles(line: &[u8], w: FdtWriter, data: &mut [u8], strings: &mut [u8]) -> Written {
-    let ls = longs(line);
-    w.property_array_u64(data, strings, field(line, 1), some_longs(&ls, bare(line)))
 }
 
 // The calls that take a property's name.
-fn property(line: &[u8], w: FdtWriter, data: &mut [u8], strings: &mut [u8]) -> Written {
+// A match on the letters: an enum of the calls would be this match, and one more that makes the calls.
+fn property(
+    line: &[u8],
+    w: FdtWriter,
+    data: &mut [u8],
+    strings: &mut [u8],
+) -> Result<FdtWriter, Refused> {
     let name = field(line, 1);
     let val = field(line, 2);
     match octets::byte(line, 0) {
-        b'p' => {
-            return w.property(data, strings, name, val);
-        }
-        b'z' => {
-            return w.property_null(data, strings, name);
-        }
-        b't' => {
-            return w.property_string(data, strings, name, val);
-        }
-        b'l' => {
-            return w.property_string_list(data, strings, name, val);
-        }
-        b'w' => {
-            return w.property_u32(data, strings, name, word(line, 2));
-        }
-        b'q' => {
-            return w.property_u64(data, strings, name, number(line, 2));
-        }
+        b'p' => w.property(data, strings, name, val),
+        b'z' => w.property_null(data, strings, name),
+        b't' => w.property_string(data, strings, name, val),
+        b'l' => w.property_string_list(data, strings, name, val),
+        b'w' => w.property_u32(data, strings, name, word(line, 2)),
+        b'q' => w.property_u64(data, strings, name, number(line, 2)),
         b'c' => {
-            return cells(line, w, data, strings);
+            let three: [u32; 3] = array::from_fn(|i| word(line, i + 2));
+            w.property_array_u32(data, strings, name, some(line, &three))
         }
         _ => {
-            return doubles(line, w, data, strings);
+            let three: [u64; 3] = array::from_fn(|i| number(line, i + 2));
+            w.property_array_u64(data, strings, name, some(line, &three))
         }
     }
 }
 
-// The other calls.
+// The other calls, by their letters as above.
 fn call(
     line: &[u8],
     w: FdtWriter,
     data: &mut [u8],
     strings: &mut [u8],
     phandles: &mut [u32],
-) -> Written {
+) -> Result<FdtWriter, Refused> {
     match octets::byte(line, 0) {
-        b'n' => {
-            return FdtWriter::new(data);
-        }
-        b's' => {
-            return start(line, data);
-        }
-        b'r' => {
-            return start(line, data);
-        }
-        b'b' => {
-            return w.begin_node(data, field(line, 1));
-        }
-        b'e' => {
-            return w.end_node(data, count(line, 1));
-        }
-        b'h' => {
-            return w.property_phandle(data, strings, phandles, word(line, 1));
-        }
-        b'f' => {
-            return w.finish(data, strings);
-        }
-        b'i' => {
-            return Written::Done(w.set_boot_cpuid_phys(word(line, 1)));
-        }
-        b'a' => {
-            return Written::Done(altered(w, number(line, 1), count(line, 2)));
-        }
-        _ => {
-            return property(line, w, data, strings);
-        }
+        b'n' => FdtWriter::new(data),
+        b's' | b'r' => start(line, data),
+        b'b' => w.begin_node(data, field(line, 1)),
+        b'e' => w.end_node(data, count(line, 1)),
+        b'h' => w.property_phandle(data, strings, phandles, word(line, 1)),
+        b'f' => w.finish(data, strings),
+        b'i' => Ok(w.set_boot_cpuid_phys(word(line, 1))),
+        b'a' => Ok(scripts::altered(w, number(line, 1), count(line, 2))),
+        _ => property(line, w, data, strings),
     }
 }
 
-// Makes a call and tells of it.
-fn called<O: Write>(
-    out: &mut O,
-    line: &[u8],
-    w: FdtWriter,
-    data: &mut [u8],
-    strings: &mut [u8],
-    phandles: &mut [u32],
-) -> io::Result<FdtWriter> {
-    let answer = call(line, w, data, strings, phandles);
-    tell::told(out, answer, data, strings, phandles)
-}
-
-// A call of the writer on what is lent.
+// Makes a call of the writer on what is lent, and tells of it. The three buffers stay parameters of their own: the borrow checker
+// has no rule yet for calls that take them out of a struct behind a reference.
 fn on<O: Write>(
     out: &mut O,
     line: &[u8],
@@ -242,42 +140,25 @@ fn on<O: Write>(
     strings: &mut [u8],
     phandles: &mut [u32],
 ) -> io::Result<Session> {
-    let w = s.w;
     let d = within(s.data, data);
     let t = within(s.strings, strings);
-    let p = within_words(s.phandles, phandles);
-    let after = called(
-        out,
-        line,
-        w,
-        &mut data[..d],
-        &mut strings[..t],
-        &mut phandles[..p],
-    )?;
+    let p = within(s.phandles, phandles);
+    let data = &mut data[..d];
+    let strings = &mut strings[..t];
+    let phandles = &mut phandles[..p];
+    let answer = call(line, s.w, data, strings, phandles);
+    let after = tell::told(out, answer, data, strings, phandles)?;
     Ok(s.with(after))
-}
-
-fn nothing() -> FdtWriter {
-    FdtWriter {
-        data_len: 0,
-        off_dt_struct: 0,
-        strings_len: 0,
-        phandles_len: 0,
-        node_depth: 0,
-        node_ended: false,
-        finished: true,
-        boot_cpuid_phys: 0,
-    }
 }
 
 // What the first line of a case lends; an empty line lends nothing, and the next is the first of a case.
 fn lent(line: &[u8]) -> Session {
     Session {
-        w: nothing(),
+        w: scripts::nothing(),
         data: count(line, 1),
         strings: count(line, 2),
         phandles: count(line, 3),
-        first: line.len() == 0,
+        first: line.is_empty(),
     }
 }
 
@@ -285,17 +166,10 @@ fn before() -> Session {
     lent(b"")
 }
 
-fn valid(address: u64, size: u64) -> bool {
-    match Reservation::new(address, size) {
-        Made::Reserved(_) => true,
-        Made::InvalidMemoryReservation => false,
-    }
-}
-
 // Tells of the first line of a case.
 fn head<O: Write>(out: &mut O, line: &[u8]) -> io::Result<()> {
     if octets::begins(b"made", line) {
-        tell::made(out, valid(number(line, 1), number(line, 2)))?;
+        tell::made(out, Reservation::new(number(line, 1), number(line, 2)))?;
     }
     tell::end(out)
 }
@@ -310,14 +184,14 @@ fn turn<O: Write>(
     phandles: &mut [u32; PHANDLES_LENT],
 ) -> io::Result<Session> {
     tell::line(out, line)?;
-    if line.len() == 0 {
+    if line.is_empty() {
         return Ok(lent(line));
     }
     if s.first {
         head(out, line)?;
         cases::fill(data, FILL);
         cases::fill(strings, FILL);
-        cases::fill_words(phandles, FILL_WORD);
+        cases::fill(phandles, FILL_WORD);
         return Ok(lent(line));
     }
     on(out, line, s, data, strings, phandles)
@@ -331,13 +205,9 @@ fn run<O: Write>(
     phandles: &mut [u32; PHANDLES_LENT],
 ) -> io::Result<()> {
     let mut s = before();
-    let mut at = 0;
-    while at < script.len() {
-        let n = span(&script[at..], b'\n');
-        let end = at + n;
-        let next = end + 1;
-        s = turn(out, &script[at..end], s, data, strings, phandles)?;
-        at = next;
+    for ended in script.split_inclusive(|x| *x == b'\n') {
+        let line = ended.strip_suffix(b"\n").unwrap_or(ended);
+        s = turn(out, line, s, data, strings, phandles)?;
     }
     Ok(())
 }

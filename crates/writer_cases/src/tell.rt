@@ -1,13 +1,11 @@
 // What is told of a call.
 use cases::{digest, digest_words};
+use reservation::{InvalidMemoryReservation, Reservation};
+use scripts::parts;
 use std::io;
 use std::io::Write;
 use streams::print_decimal;
-use writer::{FdtWriter, Written};
-
-fn flag(b: bool) -> u64 {
-    if b { 1 } else { 0 }
-}
+use writer::{FdtWriter, Refused};
 
 fn column<O: Write>(out: &mut O, n: u64) -> io::Result<()> {
     out.write_all(b" ")?;
@@ -19,9 +17,9 @@ fn state<O: Write>(out: &mut O, w: FdtWriter) -> io::Result<()> {
     column(out, w.strings_len as u64)?;
     column(out, w.phandles_len as u64)?;
     column(out, w.node_depth as u64)?;
-    column(out, flag(w.node_ended))?;
-    column(out, flag(w.finished))?;
-    column(out, w.boot_cpuid_phys as u64)
+    column(out, u64::from(w.node_ended))?;
+    column(out, u64::from(w.finished))?;
+    column(out, u64::from(w.boot_cpuid_phys))
 }
 
 // A NUL as the script has it.
@@ -41,19 +39,11 @@ pub(crate) fn end<O: Write>(out: &mut O) -> io::Result<()> {
     out.write_all(b"\n")
 }
 
-// The state that an answer hands back, and the number of its refusal or 0.
-fn parts(answer: Written) -> (FdtWriter, u64) {
-    match answer {
-        Written::Done(w) => (w, 0),
-        Written::Refused(w, e) => (w, judge::number(e)),
-    }
-}
-
 // Ends the line of a call with its refusal or 0, its place, the state that it hands back, and the digests of what is lent.
 // Hands back the state.
 pub(crate) fn told<O: Write>(
     out: &mut O,
-    answer: Written,
+    answer: Result<FdtWriter, Refused>,
     data: &[u8],
     strings: &[u8],
     phandles: &[u32],
@@ -70,7 +60,14 @@ pub(crate) fn told<O: Write>(
 }
 
 // What the maker of reservations answers: 27 or 0.
-pub(crate) fn made<O: Write>(out: &mut O, valid: bool) -> io::Result<()> {
-    column(out, if valid { 0 } else { 27 })?;
+pub(crate) fn made<O: Write>(
+    out: &mut O,
+    answer: Result<Reservation, InvalidMemoryReservation>,
+) -> io::Result<()> {
+    let refusal = match answer {
+        Ok(_) => 0,
+        Err(_) => 27,
+    };
+    column(out, refusal)?;
     column(out, 0)
 }

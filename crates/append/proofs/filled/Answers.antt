@@ -6,17 +6,11 @@ use Rattle.rules.proofs.Laws.Octets.{lay_more}
 use Rattle.rules.proofs.Laws.Writer.{laid_on}
 use Rattle.append.proofs.filled.Goals as goal
 
-pub returns-then-data-at : goal.returns-then-data-at
-returns-then-data-at c =
+pub returns-then-bytes-saturating_sub : goal.returns-then-bytes-saturating_sub
+returns-then-bytes-saturating_sub c = laid_on c.args.«data».now c.args.at c.args.bytes.now (zeros c.args.n) c.put.ensures refl c.put_zeros.ensures
+
+pub returns-else-bytes-saturating_sub : goal.returns-else-bytes-saturating_sub
+returns-else-bytes-saturating_sub c =
     let d = c.args.«data».now in
     let bs = c.args.bytes.now in
-    c.put_bytes.ensures ∙ lay_more d c.args.at bs (zeros c.args.n) (omega (arith, c.if-data-at.true, c.put_bytes.auto.d))
-
-pub returns-then-data-at-2 : goal.returns-then-data-at-2
-returns-then-data-at-2 c =
-    let d = c.args.«data».now in
-    let bs = c.args.bytes.now in
-    c.put_bytes.ensures ∙ lay_more d c.args.at bs (zeros c.args.n) (omega (arith, c.if-data-at-2.true, c.put_bytes.auto.d))
-
-pub returns : goal.returns
-returns c = laid_on c.args.«data».now c.args.at c.args.bytes.now (zeros c.args.n) c.put_bytes.ensures refl c.put_zeros.ensures
+    c.put.ensures ∙ lay_more d c.args.at bs (zeros c.args.n) (omega (arith, c.if-bytes-saturating_sub.false, c.put.auto.d, c.saturating_sub.ensures))

@@ -1,27 +1,22 @@
+use mathlib.Core.Path.{sym, ◌∙◌}
 use native.Mathlib.Omega.{arith}
-use Rattle.append.proofs.Laid.{bits32, laid_none, laid_size, laid_cut, laid_all, laid_more}
+use lib.ListN.{drop}
+use Rattle.rules.proofs.Laws.Octets.{lay_past}
+use borrow.Author.Tests.{leb-true}
+use Rattle.append.proofs.Laid.{laid_none, laid_more}
 use Rattle.append.proofs.words.Goals as goal
 
-pub loop-i-init : goal.loop-i-init
-loop-i-init c = laid_none bits32 c.args.«data».now c.args.at c.args.cells.now
-
-pub shape_of-data-then-data-p : goal.shape_of-data-then-data-p
-shape_of-data-then-data-p c = laid_size bits32 c.args.«data».now c.args.at c.args.cells.now c.loop-i.«data» c.loop-i.p c.loop-i.i c.loop-i.invariant
-
 pub returns-then-data-p : goal.returns-then-data-p
-unfolding bits32
-returns-then-data-p c = laid_cut bits32 c.args.«data».now c.args.at c.args.cells.now c.loop-i.«data» c.loop-i.p c.loop-i.i c.loop-i.invariant c.if-data-p.true
+returns-then-data-p g c = sym (c.loop-word.invariant ∙ lay_past c.loop-word.«data» c.loop-word.p (g.T.Word.bytes (drop c.loop-word.word-index c.args.words.now)) c.if-data-p.true)
 
 pub overflow_add-p : goal.overflow_add-p
-overflow_add-p c = omega (arith, laid_size bits32 c.args.«data».now c.args.at c.args.cells.now c.loop-i.«data» c.loop-i.p c.loop-i.i c.loop-i.invariant)
+overflow_add-p g c = omega (arith, leb-true g.T.Word.SIZE 8 g.met.T.Word.narrow)
 
-pub loop-i-preserved : goal.loop-i-preserved
-unfolding bits32
-loop-i-preserved c = laid_more bits32 c.args.«data».now c.args.at c.args.cells.now c.loop-i.«data» c.loop-i.p c.loop-i.i c.loop-i.invariant c.loop-i-test.true c.put_word.new.d c.put_word.ensures
-
-pub shape_of-data : goal.shape_of-data
-shape_of-data c = laid_size bits32 c.args.«data».now c.args.at c.args.cells.now c.loop-i.«data» c.loop-i.p c.loop-i.i c.loop-i.invariant
+pub loop-word-preserved : goal.loop-word-preserved
+loop-word-preserved g c =
+    c.loop-word.invariant
+    ∙ laid_more g.T.Word.bytes g.T.Word.SIZE c.loop-word.«data» c.loop-word.p c.args.words.now c.loop-word.word-index g.met.T.Word.more g.met.T.Word.wide c.word-item.result c.word-item.is c.loop-word-test.true
+    ∙ rw (c.put.ensures, c.SIZE-p.ensures)
 
 pub returns : goal.returns
-unfolding bits32
-returns c = laid_all bits32 c.args.«data».now c.args.at c.args.cells.now c.loop-i.«data» c.loop-i.p c.loop-i.i c.loop-i.invariant c.loop-i-test.false
+returns g c = sym (c.loop-word.invariant ∙ laid_none g.T.Word.bytes g.T.Word.SIZE c.loop-word.«data» c.loop-word.p c.args.words.now c.loop-word.word-index g.met.T.Word.wide c.loop-word-test.false)

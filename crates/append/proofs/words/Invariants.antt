@@ -1,11 +1,8 @@
--- `words` meets its contract. The invariant: i numbers are laid in.
-use Prim.Native.Nat.{◌-◌}
-use lib.ListN.{length}
-use Rattle.append.proofs.Laid.{Laid, bits32}
+-- `words` meets its contract. The invariant: what is left, laid in from the place reached on, makes all.
+use mathlib.Core.Path.{◌≡◌}
+use lib.ListN.{drop}
+use Rattle.rules.specs.Octets.{lay}
 use Rattle.append.proofs.words.Given as goal
 
-abbrev pub invariant-loop-i : goal.invariant-loop-i
-invariant-loop-i l = Laid bits32 l.initial.data l.at l.cells l.data l.p l.i
-
-abbrev pub decreases-loop-i : goal.decreases-loop-i
-decreases-loop-i l = length l.cells - l.i
+abbrev pub invariant-loop-word : goal.invariant-loop-word
+invariant-loop-word g l = lay l.initial.data l.at (g.T.Word.bytes l.words) ≡ lay l.data l.p (g.T.Word.bytes (drop l.word-index l.words))

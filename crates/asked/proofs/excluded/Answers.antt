@@ -1,44 +1,38 @@
-use mathlib.Core.List.{[]}
-use mathlib.Core.Path.{ap}
-use mathlib.Core.Option.{none, some}
+use mathlib.Core.Path.{◌≡◌, sym, ap, ◌∙◌}
 use native.Mathlib.Omega.{arith}
-use Rattle.rules.specs.Octets.{Bytes, part}
 use Rattle.rules.specs.Tree.{frame}
+use Rattle.rules.specs.Derivation.{given}
+use Rattle.rules.specs.Laws.Lent.{block_lent, tree_lent}
 use Rattle.rules.proofs.Laws.Kept.{node_word}
-use Rattle.rules.specs.Laws.Tabled.{tree_of}
 use Rattle.references.specs.Table.{found}
-use Rattle.given.specs.Entries.{path_tells}
-use Rattle.asked.proofs.Turns.{told_at, at_small, left_length, left_first, left_done, left-some, left-none}
+use Rattle.given.specs.Entries.{given_path, paths_left}
+use Rattle.given.proofs.Turns.{given_short}
+use Rattle.asked.proofs.Turns.{at_small, left_first, left_done, left-some, left-none}
 use Rattle.asked.proofs.excluded.Goals as goal
 
-pub loop-len-init : goal.loop-len-init
-loop-len-init c = (omega arith, omega arith, λ s. left_first (frame (tree_of c.args.place c.args.structure.now s c.args.work.now c.args.count)) c.args.list.now c.args.out.now)
-
-pub shape_of-out-in_default : goal.shape_of-out-in_default
-shape_of-out-in_default c = left_length (frame (tree_of c.args.place c.args.structure.now [] c.args.work.now c.args.count)) c.args.list.now c.args.out.now c.loop-len.out c.loop-len.at c.loop-len.n (c.loop-len.invariant.2 [])
-
-pub returns-in_default : goal.returns-in_default
-returns-in_default c = record { value = λ s. (left_done (frame (tree_of c.args.place c.args.structure.now s c.args.work.now c.args.count)) c.args.list.now c.args.out.now c.loop-len.out c.loop-len.at c.loop-len.n (c.loop-len.invariant.2 s) c.entry_at.result c.entry_at.ensures c.in_default.is).0; out_after = λ s. (left_done (frame (tree_of c.args.place c.args.structure.now s c.args.work.now c.args.count)) c.args.list.now c.args.out.now c.loop-len.out c.loop-len.at c.loop-len.n (c.loop-len.invariant.2 s) c.entry_at.result c.entry_at.ensures c.in_default.is).1 }
+pub loop-given-init : goal.loop-given-init
+loop-given-init c =
+    let e : paths_left c.into_iter-given-iterator.result ≡ given c.args.list.now = ap paths_left c.into_iter-given-iterator.ensures.into_iter_gives ∙ c.of-given-items.ensures in
+    rw e (left_first (frame (tree_lent c.args.tree.now)) c.args.list.now c.args.out.now (given_short c.args.list.now))
 
 pub overflow_cast-i : goal.overflow_cast-i
-overflow_cast-i c = record { fits = (let s : Bytes = [] in omega (arith, node_word, at_small c.args.place c.args.structure.now s c.args.work.now c.args.count (part c.args.list.now c.loop-len.at c.in-Path.len) c.in-At.i (told_at (frame (tree_of c.args.place c.args.structure.now s c.args.work.now c.args.count)) c.args.list.now c.part.result.now c.loop-len.at c.in-Path.len c.node_at.result (some c.in-At.i) c.part.ensures (c.node_at.ensures s) (ap found c.in-At.is)), c.requires)) }
+overflow_cast-i c =
+    let t = c.args.tree.now in
+    record {
+      fits = omega (arith, node_word, at_small (block_lent t.block) t.work.now t.count c.in-Some.given.path.now c.in-Some-node_at.i (sym c.node_at.ensures ∙ ap found c.in-Some-node_at.is), c.requires);
+    }
 
-pub loop-len-smaller-in-At : goal.loop-len-smaller-in-At
-loop-len-smaller-in-At c = omega (arith, (path_tells c.args.list.now c.loop-len.at c.entry_at.result c.in-Path.len c.in-Path.closed c.in-Path.next c.entry_at.ensures c.in-Path.is).0, (path_tells c.args.list.now c.loop-len.at c.entry_at.result c.in-Path.len c.in-Path.closed c.in-Path.next c.entry_at.ensures c.in-Path.is).1)
+pub loop-given-preserved-in-Some-node_at : goal.loop-given-preserved-in-Some-node_at
+loop-given-preserved-in-Some-node_at c =
+    left-some (frame (tree_lent c.args.tree.now)) c.args.list.now c.args.out.now c.loop-given.out (paths_left c.loop-given.given-iterator) c.loop-given.n c.loop-given.invariant
+    (given_path c.in-Some.given) (paths_left c.next.new.self) c.in-Some.ensures.steps c.in-Some-node_at.i (sym c.node_at.ensures ∙ ap found c.in-Some-node_at.is) _ c.put_word_of.ensures
 
-pub loop-len-preserved-in-At : goal.loop-len-preserved-in-At
-loop-len-preserved-in-At c = (
-  (path_tells c.args.list.now c.loop-len.at c.entry_at.result c.in-Path.len c.in-Path.closed c.in-Path.next c.entry_at.ensures c.in-Path.is).1,
-  omega (arith, (path_tells c.args.list.now c.loop-len.at c.entry_at.result c.in-Path.len c.in-Path.closed c.in-Path.next c.entry_at.ensures c.in-Path.is).0),
-  λ s. left-some (frame (tree_of c.args.place c.args.structure.now s c.args.work.now c.args.count)) c.args.list.now c.args.out.now c.loop-len.out c.loop-len.at c.loop-len.n (c.loop-len.invariant.2 s) c.entry_at.result c.entry_at.ensures c.in-Path.len c.in-Path.closed c.in-Path.next c.in-Path.is c.in-At.i (told_at (frame (tree_of c.args.place c.args.structure.now s c.args.work.now c.args.count)) c.args.list.now c.part.result.now c.loop-len.at c.in-Path.len c.node_at.result (some c.in-At.i) c.part.ensures (c.node_at.ensures s) (ap found c.in-At.is)) _ c.put_word_of.ensures,
-)
+pub loop-given-preserved : goal.loop-given-preserved
+loop-given-preserved c =
+    left-none (frame (tree_lent c.args.tree.now)) c.args.list.now c.args.out.now c.loop-given.out (paths_left c.loop-given.given-iterator) c.loop-given.n c.loop-given.invariant
+    (given_path c.in-Some.given) (paths_left c.next.new.self) c.in-Some.ensures.steps (sym c.node_at.ensures ∙ ap found c.in_default.is)
 
-pub loop-len-smaller : goal.loop-len-smaller
-loop-len-smaller c = omega (arith, (path_tells c.args.list.now c.loop-len.at c.entry_at.result c.in-Path.len c.in-Path.closed c.in-Path.next c.entry_at.ensures c.in-Path.is).0, (path_tells c.args.list.now c.loop-len.at c.entry_at.result c.in-Path.len c.in-Path.closed c.in-Path.next c.entry_at.ensures c.in-Path.is).1)
-
-pub loop-len-preserved : goal.loop-len-preserved
-loop-len-preserved c = (
-  (path_tells c.args.list.now c.loop-len.at c.entry_at.result c.in-Path.len c.in-Path.closed c.in-Path.next c.entry_at.ensures c.in-Path.is).1,
-  omega (arith, (path_tells c.args.list.now c.loop-len.at c.entry_at.result c.in-Path.len c.in-Path.closed c.in-Path.next c.entry_at.ensures c.in-Path.is).0),
-  λ s. left-none (frame (tree_of c.args.place c.args.structure.now s c.args.work.now c.args.count)) c.args.list.now c.args.out.now c.loop-len.out c.loop-len.at c.loop-len.n (c.loop-len.invariant.2 s) c.entry_at.result c.entry_at.ensures c.in-Path.len c.in-Path.closed c.in-Path.next c.in-Path.is (told_at (frame (tree_of c.args.place c.args.structure.now s c.args.work.now c.args.count)) c.args.list.now c.part.result.now c.loop-len.at c.in-Path.len c.node_at.result none c.part.ensures (c.node_at.ensures s) (ap found c.in-Nothing.is)),
-)
+pub returns : goal.returns
+returns c =
+    let r = left_done (frame (tree_lent c.args.tree.now)) c.args.list.now c.args.out.now c.loop-given.out (paths_left c.loop-given.given-iterator) c.loop-given.n c.loop-given.invariant c.in-None.ensures.steps.0 in
+    record { value = r.0; out_after = r.1 }

@@ -1,15 +1,9 @@
 -- `excluded` meets its contract. The invariant: the nodes laid, and those that the rest of the list names, are the whole.
-use Prim.Native.Nat.{◌-◌, ◌≤◌}
-use lib.ListN.{length}
-use Rattle.rules.specs.Octets.{Bytes}
 use Rattle.rules.specs.Tree.{frame}
-use Rattle.rules.specs.Laws.Tabled.{tree_of}
+use Rattle.rules.specs.Laws.Lent.{tree_lent}
+use Rattle.given.specs.Entries.{paths_left}
 use Rattle.asked.proofs.Turns.{Left}
 use Rattle.asked.proofs.excluded.Given as goal
 
-abbrev pub invariant-loop-len : goal.invariant-loop-len
-invariant-loop-len l =
-    (l.at ≤ length l.list) × (l.n ≤ l.at) × ((strings : Bytes) → Left (frame (tree_of l.place l.structure strings l.work l.count)) l.list l.initial.out l.out l.at l.n)
-
-abbrev pub decreases-loop-len : goal.decreases-loop-len
-decreases-loop-len l = length l.list - l.at
+abbrev pub invariant-loop-given : goal.invariant-loop-given
+invariant-loop-given l = Left (frame (tree_lent l.tree)) l.list l.initial.out l.out (paths_left l.given-iterator) l.n

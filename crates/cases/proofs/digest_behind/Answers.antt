@@ -1,18 +1,12 @@
-use mathlib.Core.Path.{refl, sym, ◌∙◌}
-use native.Mathlib.Omega.{arith}
-use Rattle.cases.proofs.Turns.{digest_more, digest_end}
+-- `digest_behind` meets its contract.
+use Rattle.std.proofs.Common.{◌∙◌, rules, tests}
+use Rattle.std.proofs.lemmas.Iterator.{YieldsList-from_slice}
+use Rattle.std.proofs.lemmas.Iterator.Consumers.{fold_from_yields_List}
+use Rattle.cases.specs.Digests.{mixed}
+use Rattle.cases.proofs.Turns.{digest_fold}
 use Rattle.cases.proofs.digest_behind.Goals as goal
-
-pub loop-i-init : goal.loop-i-init
-loop-i-init c = (omega arith, refl)
-
-pub loop-i-preserved : goal.loop-i-preserved
-loop-i-preserved c =
-    let before = c.loop-i in
-    let s = c.args.s.now in
-    (omega arith, rw (c.mixed-h.ensures, c.wide.ensures) (digest_more before.h s before.i (omega arith) ∙ before.invariant.1))
 
 pub returns : goal.returns
 returns c =
-    let before = c.loop-i in
-    sym (digest_end before.h c.args.s.now before.i (omega arith)) ∙ before.invariant.1
+    fold_from_yields_List _ mixed c.args.first c.fold.result c.fold.ensures.ran (YieldsList-from_slice c.args.s.now cc) (λ a x b q k. search (rules, tests))
+    ∙ digest_fold c.args.first c.args.s.now

@@ -1,22 +1,80 @@
 -- `accepted` meets its contract: judged, and, where it passes, listed, copied and written.
-use mathlib.Core.Path.{refl, ap}
-use Rattle.rules.proofs.Laws.Host.{block_is, wide}
-use Rattle.derive.specs.Answers.{checked}
-use Rattle.derive.proofs.Joining.{whole, accepts_not, start-asked, accepts}
+use Rattle.std.proofs.lemmas.Result.{err_from_is_err_and}
+use mathlib.Core.Path.{refl, sym, ap}
+use lib.Seq.{length-take-le}
 use Rattle.rules.specs.Blob.{block_of}
+use Rattle.rules.proofs.Laws.Host.{block_is, wide}
+use Rattle.given.specs.Answers.{request_lent}
+use Rattle.derive.specs.Answers.{checked}
+use Rattle.derive.proofs.Joining.{whole, accepts_not, conf-fits, start-asked, excl-fits, accepts}
 use Rattle.derive.proofs.accepted.Goals as goal
 
-pub request-checked-requires : goal.request-checked-requires
-request-checked-requires c = record { count_le_node_ceiling = c.requires.kept.few; entry_ceiling_in_bounds = wide }
+pub judged-requires : goal.judged-requires
+judged-requires c = record { count_le_node_ceiling = c.requires.kept.few; entry_ceiling_in_bounds = wide }
 
 pub excluded-m-requires : goal.excluded-m-requires
 excluded-m-requires c = c.requires.kept.few
 
+pub returns-in_err-n : goal.returns-in_err-n
+returns-in_err-n c =
+    let a = c.args in
+    let q = request_lent a.request.now in
+    let is = block_is a.host.now c.word.result c.block.result.now c.block-2.result.now c.word.ensures c.block.ensures c.block-2.ensures in
+    let e = err_from_is_err_and c.from_residual.result c.from_residual.ensures.1 in
+    rw (e.1, e.2) (accepts_not a.host.now a.work.now a.count c.requires (block_of c.word.result c.block.result.now c.block-2.result.now) is q
+    _ _ c.judged.result c.judged.ensures c.in_err-n.field-0.0 (ap checked c.in_err-n.was) _ refl a.list.now a.guest.now)
+
+pub slice_bounds-conf-end : goal.slice_bounds-conf-end
+slice_bounds-conf-end c =
+    let a = c.args in
+    let q = request_lent a.request.now in
+    let is = block_is a.host.now c.word.result c.block.result.now c.block-2.result.now c.word.ensures c.block.ensures c.block-2.ensures in
+    conf-fits a.host.now a.work.now a.count c.requires (block_of c.word.result c.block.result.now c.block-2.result.now) is q
+    _ _ c.judged.result c.judged.ensures c.in_ok-n.n (ap checked c.in_ok-n.was) wide
+
+pub slice_bounds-wanted-end : goal.slice_bounds-wanted-end
+slice_bounds-wanted-end c =
+    let a = c.args in
+    let q = request_lent a.request.now in
+    let is = block_is a.host.now c.word.result c.block.result.now c.block-2.result.now c.word.ensures c.block.ensures c.block-2.ensures in
+    sym (length-take-le c.in_ok-n.n c.judged.new.conf (conf-fits a.host.now a.work.now a.count c.requires (block_of c.word.result c.block.result.now c.block-2.result.now) is q
+    _ _ c.judged.result c.judged.ensures c.in_ok-n.n (ap checked c.in_ok-n.was) wide))
+
+pub slice_bounds-excl-end : goal.slice_bounds-excl-end
+slice_bounds-excl-end c =
+    let a = c.args in
+    let q = request_lent a.request.now in
+    let is = block_is a.host.now c.word.result c.block.result.now c.block-2.result.now c.word.ensures c.block.ensures c.block-2.ensures in
+    excl-fits a.host.now a.work.now a.count c.requires (block_of c.word.result c.block.result.now c.block-2.result.now) is q
+    _ _ c.judged.result c.judged.ensures c.in_ok-n.n (ap checked c.in_ok-n.was) wide
+    _ _ c.excluded-m.result wide c.excluded-m.ensures.value c.excluded-m.ensures.out_after
+
+pub slice_bounds-wanted-end-2 : goal.slice_bounds-wanted-end-2
+slice_bounds-wanted-end-2 c =
+    let a = c.args in
+    let q = request_lent a.request.now in
+    let is = block_is a.host.now c.word.result c.block.result.now c.block-2.result.now c.word.ensures c.block.ensures c.block-2.ensures in
+    sym (length-take-le c.excluded-m.result c.excluded-m.new.out (excl-fits a.host.now a.work.now a.count c.requires (block_of c.word.result c.block.result.now c.block-2.result.now) is q
+    _ _ c.judged.result c.judged.ensures c.in_ok-n.n (ap checked c.in_ok-n.was) wide
+    _ _ c.excluded-m.result wide c.excluded-m.ensures.value c.excluded-m.ensures.out_after))
+
 pub written-requires : goal.written-requires
-written-requires c = record { asked = rw c.first_words.ensures (start-asked c.args.host.now c.args.work.now c.args.count c.requires (block_of c.word-place.result c.block-structure.result.now c.block-strings.result.now) (block_is c.args.host.now c.word-place.result c.block-structure.result.now c.block-strings.result.now c.word-place.ensures c.block-structure.ensures c.block-strings.ensures) (record { configured = c.args.configured.now; excluded = c.args.excluded.now; ids = c.args.ids.now }) _ _ c.request-checked.result c.request-checked.ensures c.in-Nodes.n (ap checked c.in-Nodes.is) wide); whole = whole c.args.host.now c.args.work.now c.args.count c.requires (block_of c.word-place.result c.block-structure.result.now c.block-strings.result.now) (block_is c.args.host.now c.word-place.result c.block-structure.result.now c.block-strings.result.now c.word-place.ensures c.block-structure.ensures c.block-strings.ensures) (record { configured = c.args.configured.now; excluded = c.args.excluded.now; ids = c.args.ids.now }) }
+written-requires c =
+    let a = c.args in
+    let q = request_lent a.request.now in
+    let is = block_is a.host.now c.word.result c.block.result.now c.block-2.result.now c.word.ensures c.block.ensures c.block-2.ensures in
+    record {
+      asked = start-asked a.host.now a.work.now a.count c.requires (block_of c.word.result c.block.result.now c.block-2.result.now) is q
+          _ _ c.judged.result c.judged.ensures c.in_ok-n.n (ap checked c.in_ok-n.was) wide;
+      whole = whole a.host.now a.work.now a.count c.requires (block_of c.word.result c.block.result.now c.block-2.result.now) is q;
+    }
 
-pub returns-in-Refused : goal.returns-in-Refused
-returns-in-Refused c = accepts_not c.args.host.now c.args.work.now c.args.count c.requires (block_of c.word-place.result c.block-structure.result.now c.block-strings.result.now) (block_is c.args.host.now c.word-place.result c.block-structure.result.now c.block-strings.result.now c.word-place.ensures c.block-structure.ensures c.block-strings.ensures) (record { configured = c.args.configured.now; excluded = c.args.excluded.now; ids = c.args.ids.now }) _ _ c.request-checked.result c.request-checked.ensures c.in-Refused.refusal (ap checked c.in-Refused.is) _ refl c.args.list.now c.args.guest.now
-
-pub returns-in-Nodes : goal.returns-in-Nodes
-returns-in-Nodes c = accepts c.args.host.now c.args.work.now c.args.count c.requires (block_of c.word-place.result c.block-structure.result.now c.block-strings.result.now) (block_is c.args.host.now c.word-place.result c.block-structure.result.now c.block-strings.result.now c.word-place.ensures c.block-structure.ensures c.block-strings.ensures) (record { configured = c.args.configured.now; excluded = c.args.excluded.now; ids = c.args.ids.now }) _ _ c.request-checked.result c.request-checked.ensures c.in-Nodes.n (ap checked c.in-Nodes.is) wide _ _ c.excluded-m.result wide (c.excluded-m.ensures.value c.block-strings.result.now) (c.excluded-m.ensures.out_after c.block-strings.result.now) _ c.args.list.now _ c.args.guest.now _ c.written.result (rw (c.first_words.ensures, c.first_words-in-Nodes.ensures) at c.written.ensures)
+pub returns : goal.returns
+returns c =
+    let a = c.args in
+    let q = request_lent a.request.now in
+    let is = block_is a.host.now c.word.result c.block.result.now c.block-2.result.now c.word.ensures c.block.ensures c.block-2.ensures in
+    accepts a.host.now a.work.now a.count c.requires (block_of c.word.result c.block.result.now c.block-2.result.now) is q
+    _ _ c.judged.result c.judged.ensures c.in_ok-n.n (ap checked c.in_ok-n.was) wide
+    _ _ c.excluded-m.result wide c.excluded-m.ensures.value c.excluded-m.ensures.out_after
+    _ a.list.now _ a.guest.now _ c.written.result c.written.ensures

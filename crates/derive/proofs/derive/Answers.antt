@@ -1,26 +1,61 @@
 -- `derive` meets its contract: read, then judged, listed, copied and written, and the work space cleared.
+use Rattle.std.proofs.lemmas.Result.{err_from_is_err_and}
 use mathlib.Core.Path.{sym, ap, ◌∙◌, subst}
 use mathlib.Core.List.{List}
 use Prim.Native.Nat.{ℕ}
 use lib.ListN.{length, drop}
 use Rattle.rules.specs.Ceilings.{work_words}
+use Rattle.rules.specs.Derivation.{Request}
 use Rattle.rules.specs.Laws.Host.{HostRead}
 use Rattle.rules.proofs.Laws.Host.{host_read, cleared, space_cleared, space_length_kept}
 use Rattle.reader.specs.Answers.{meaning}
 use Rattle.derive.proofs.Joining.{refused_answer, refused_list, refused_guest, refused_space, derived_is, derived_list, derived_guest}
 use Rattle.derive.proofs.derive.Goals as goal
 
-pub accepted-answer-requires : goal.accepted-answer-requires
-accepted-answer-requires c = subst (λ (ws : List ℕ). HostRead c.args.host.now ws c.in-Nodes.count) (sym c.read.ensures.work_after) (host_read c.args.host.now c.args.work.now c.in-Nodes.count (sym (ap meaning c.in-Nodes.is) ∙ c.read.ensures.result_value))
+pub accepted-derived-requires : goal.accepted-derived-requires
+accepted-derived-requires c =
+    let a = c.args in
+    subst (λ (ws : List ℕ). HostRead a.host.now ws c.in_ok-count.count) (sym c.read.ensures.work_after)
+    (host_read a.host.now a.work.now c.in_ok-count.count (sym (ap meaning c.in_ok-count.was) ∙ c.read.ensures.result_value))
 
-pub shape_of-work-in-Refused : goal.shape_of-work-in-Refused
-shape_of-work-in-Refused c = ap length (c.read.ensures.work_after ∙ refused_space c.args.host.now (record { configured = c.args.configured.now; excluded = c.args.excluded.now; ids = c.args.ids.now }) c.args.work.now c.in-Refused.refusal (sym (ap meaning c.in-Refused.is) ∙ c.read.ensures.result_value)) ∙ space_length_kept c.args.work.now
+pub shape_of-work-in_err-count : goal.shape_of-work-in_err-count
+shape_of-work-in_err-count c =
+    let a = c.args in
+    let q : Request = record { configured = a.configured.now; excluded = a.excluded.now; ids = a.ids.now } in
+    let e = sym (ap meaning c.in_err-count.was) ∙ c.read.ensures.result_value in
+    ap length (c.read.ensures.work_after ∙ refused_space a.host.now q a.work.now c.in_err-count.field-0.0 e) ∙ space_length_kept a.work.now
 
-pub returns-in-Refused : goal.returns-in-Refused
-returns-in-Refused c = record { result_value = c.refused_by.ensures ∙ refused_answer c.args.host.now (record { configured = c.args.configured.now; excluded = c.args.excluded.now; ids = c.args.ids.now }) c.args.work.now c.in-Refused.refusal (sym (ap meaning c.in-Refused.is) ∙ c.read.ensures.result_value) (length c.args.list.now) (length c.args.guest.now); list_after = refused_list c.args.host.now (record { configured = c.args.configured.now; excluded = c.args.excluded.now; ids = c.args.ids.now }) c.args.work.now c.in-Refused.refusal (sym (ap meaning c.in-Refused.is) ∙ c.read.ensures.result_value) c.args.list.now (length c.args.guest.now); guest_after = refused_guest c.args.host.now (record { configured = c.args.configured.now; excluded = c.args.excluded.now; ids = c.args.ids.now }) c.args.work.now c.in-Refused.refusal (sym (ap meaning c.in-Refused.is) ∙ c.read.ensures.result_value) c.args.guest.now (length c.args.list.now); work_after = c.read.ensures.work_after ∙ refused_space c.args.host.now (record { configured = c.args.configured.now; excluded = c.args.excluded.now; ids = c.args.ids.now }) c.args.work.now c.in-Refused.refusal (sym (ap meaning c.in-Refused.is) ∙ c.read.ensures.result_value) }
+pub returns-in_err-count : goal.returns-in_err-count
+returns-in_err-count c =
+    let a = c.args in
+    let q : Request = record { configured = a.configured.now; excluded = a.excluded.now; ids = a.ids.now } in
+    let e = sym (ap meaning c.in_err-count.was) ∙ c.read.ensures.result_value in
+    let r = c.in_err-count.field-0.0 in
+    let f = err_from_is_err_and c.from_residual.result c.from_residual.ensures.1 in
+    record {
+      result_value = rw f.1 (f.2 ∙ refused_answer a.host.now q a.work.now r e (length a.list.now) (length a.guest.now));
+      list_after = refused_list a.host.now q a.work.now r e a.list.now (length a.guest.now);
+      guest_after = refused_guest a.host.now q a.work.now r e a.guest.now (length a.list.now);
+      work_after = c.read.ensures.work_after ∙ refused_space a.host.now q a.work.now r e;
+    }
 
-pub shape_of-work-in-Nodes : goal.shape_of-work-in-Nodes
-shape_of-work-in-Nodes c = ap length (space_cleared c.args.host.now c.args.work.now c.in-Nodes.count (sym (ap meaning c.in-Nodes.is) ∙ c.read.ensures.result_value) c.accepted-answer.new.work _ (c.accepted-answer.ensures.size ∙ ap length c.read.ensures.work_after) (c.accepted-answer.ensures.rest ∙ ap (drop work_words) c.read.ensures.work_after) (cleared c.accepted-answer.new.work _ c.clear.ensures)) ∙ space_length_kept c.args.work.now
+pub shape_of-work : goal.shape_of-work
+shape_of-work c =
+    let a = c.args in
+    let d = c.accepted-derived in
+    let e = sym (ap meaning c.in_ok-count.was) ∙ c.read.ensures.result_value in
+    ap length (space_cleared a.host.now a.work.now c.in_ok-count.count e d.new.work _ (d.ensures.size ∙ ap length c.read.ensures.work_after) (d.ensures.rest ∙ ap (drop work_words) c.read.ensures.work_after) (cleared d.new.work _ c.clear.ensures)) ∙ space_length_kept a.work.now
 
-pub returns-in-Nodes : goal.returns-in-Nodes
-returns-in-Nodes c = record { result_value = c.accepted-answer.ensures.answer ∙ sym (derived_is c.args.host.now (record { configured = c.args.configured.now; excluded = c.args.excluded.now; ids = c.args.ids.now }) c.args.work.now c.in-Nodes.count (sym (ap meaning c.in-Nodes.is) ∙ c.read.ensures.result_value) (length c.args.list.now) (length c.args.guest.now)); list_after = derived_list c.args.host.now (record { configured = c.args.configured.now; excluded = c.args.excluded.now; ids = c.args.ids.now }) c.args.work.now c.in-Nodes.count (sym (ap meaning c.in-Nodes.is) ∙ c.read.ensures.result_value) c.args.list.now c.args.guest.now _ c.accepted-answer.ensures.listed; guest_after = derived_guest c.args.host.now (record { configured = c.args.configured.now; excluded = c.args.excluded.now; ids = c.args.ids.now }) c.args.work.now c.in-Nodes.count (sym (ap meaning c.in-Nodes.is) ∙ c.read.ensures.result_value) c.args.list.now c.args.guest.now _ c.accepted-answer.ensures.copied; work_after = (space_cleared c.args.host.now c.args.work.now c.in-Nodes.count (sym (ap meaning c.in-Nodes.is) ∙ c.read.ensures.result_value) c.accepted-answer.new.work _ (c.accepted-answer.ensures.size ∙ ap length c.read.ensures.work_after) (c.accepted-answer.ensures.rest ∙ ap (drop work_words) c.read.ensures.work_after) (cleared c.accepted-answer.new.work _ c.clear.ensures)) }
+pub returns : goal.returns
+returns c =
+    let a = c.args in
+    let q : Request = record { configured = a.configured.now; excluded = a.excluded.now; ids = a.ids.now } in
+    let d = c.accepted-derived in
+    let n = c.in_ok-count.count in
+    let e = sym (ap meaning c.in_ok-count.was) ∙ c.read.ensures.result_value in
+    record {
+      result_value = d.ensures.answer ∙ sym (derived_is a.host.now q a.work.now n e (length a.list.now) (length a.guest.now));
+      list_after = derived_list a.host.now q a.work.now n e a.list.now a.guest.now _ d.ensures.listed;
+      guest_after = derived_guest a.host.now q a.work.now n e a.list.now a.guest.now _ d.ensures.copied;
+      work_after = space_cleared a.host.now a.work.now n e d.new.work _ (d.ensures.size ∙ ap length c.read.ensures.work_after) (d.ensures.rest ∙ ap (drop work_words) c.read.ensures.work_after) (cleared d.new.work _ c.clear.ensures);
+    }

@@ -10,7 +10,7 @@ use Rattle.doubled.proofs.doubled.Given as goal
 
 abbrev pub invariant-loop-kind : goal.invariant-loop-kind
 invariant-loop-kind l =
-    (l.at ≤ length l.structure) × (l.count ≤ l.at) × (length l.work ≡ length l.initial.work) × (Table l.initial.work (nodes_in l.structure l.strings l.place) → (l.work ≡ l.initial.work) × Come l.structure l.strings l.place l.initial.work l.at l.count)
+    (l.at ≤ length l.block.structure.now) × (l.count ≤ l.at) × (length l.work ≡ length l.initial.work) × (Table l.initial.work (nodes_in l.block.structure.now l.block.strings.now l.block.place) → (l.work ≡ l.initial.work) × Come l.block.structure.now l.block.strings.now l.block.place l.initial.work l.at l.count)
 
 abbrev pub decreases-loop-kind : goal.decreases-loop-kind
-decreases-loop-kind l = length l.structure - l.at
+decreases-loop-kind l = length l.block.structure.now - l.at

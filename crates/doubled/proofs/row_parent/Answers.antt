@@ -1,12 +1,7 @@
 -- `row_parent` meets its contract.
-use borrow.Author.Tests.{le-ltb, lt-ltb}
-use Rattle.rules.specs.Ceilings.{node_words}
+use Rattle.std.proofs.Common.{rules}
+use Rattle.doubled.proofs.Rows.{parent_is}
 use Rattle.doubled.proofs.row_parent.Goals as goal
 
-pub returns-then-work-i : goal.returns-then-work-i
-unfolding node_words
-returns-then-work-i c = simp (le-ltb _ _ c.if-work-i.true)
-
 pub returns : goal.returns
-unfolding node_words
-returns c = simp (lt-ltb _ _ c.if-work-i.false)
+returns c = parent_is _ c.args.work.now c.args.i c.row.result c.map_or.result c.row.ensures c.map_or.ensures (λ x k. search rules)

@@ -1,26 +1,33 @@
-use mathlib.Core.Path.{ap}
-use native.Mathlib.Omega.{arith}
-use Rattle.rules.specs.Ceilings.{entry_ceiling}
-use Rattle.rules.specs.Derivation.{paths_judged}
-use Rattle.rules.proofs.Laws.Given.{given_all}
-use Rattle.given.proofs.Turns.{at_done, ahead, at_fault, at_good, few}
+use mathlib.Core.Path.{◌≡◌, sym, ap, ◌∙◌}
+use Rattle.std.proofs.Common.{arith, inl}
+use Prim.Native.Nat.{ℕ}
+use lib.ListN.{length}
+use Rattle.rules.specs.Derivation.{given, path_at_fault, paths_judged}
+use Rattle.given.specs.Entries.{given_path, paths_left}
+use Rattle.given.proofs.Turns.{at_done, at_fault, at_good, given_short}
 use Rattle.given.proofs.paths_judged.Goals as goal
 
-pub loop-len-init : goal.loop-len-init
-loop-len-init c = (omega arith, ap (paths_judged 0) (given_all c.args.list.now))
-
-pub returns-in_default : goal.returns-in_default
-returns-in_default c = at_done c.args.list.now c.loop-len.at c.loop-len.index c.loop-len.invariant.1 c.entry_at.result c.entry_at.ensures c.in_default.is
+pub loop-index-init : goal.loop-index-init
+loop-index-init c =
+    let w = c.into_iter-index-iterator.result in
+    let n : w.count ≡ 0 = ap (λ e. e.count) c.into_iter-index-iterator.ensures.into_iter_gives ∙ c.enumerate-index-items.ensures.count in
+    let e : paths_left w.iter ≡ given c.args.list.now =
+    ap (λ e. paths_left e.iter) c.into_iter-index-iterator.ensures.into_iter_gives ∙ ap paths_left c.enumerate-index-items.ensures.source ∙ c.of.ensures in
+    ((tt, tt, inl (omega (arith, n, ap length e, given_short c.args.list.now))), tt, rw (n, e))
 
 pub returns-then-at_fault : goal.returns-then-at_fault
-returns-then-at_fault c = at_fault c.args.list.now c.loop-len.at c.loop-len.index c.loop-len.invariant.1 c.entry_at.result c.entry_at.ensures c.in-Path.len c.in-Path.closed c.in-Path.next c.in-Path.is c.part.result.now c.at_fault.result c.part.ensures c.at_fault.ensures c.if-at_fault.true
+returns-then-at_fault c =
+    at_fault (paths_judged 0 (given c.args.list.now)) c.loop-index.index-iterator.count (paths_left c.loop-index.index-iterator.iter) c.loop-index.invariant.2 (given_path c.in-Some.given) (paths_left c.next.new.self.iter) c.in-Some.ensures.steps.0
+    (ap (λ (i : ℕ). path_at_fault i (given_path c.in-Some.given)) (sym c.in-Some.ensures.steps.1) ∙ sym c.at_fault.ensures ∙ c.if-at_fault.true)
 
-pub overflow_add-index : goal.overflow_add-index
-unfolding entry_ceiling
-overflow_add-index c = omega (arith, few c.args.list.now c.loop-len.at c.loop-len.index c.loop-len.invariant.1 c.entry_at.result c.entry_at.ensures c.in-Path.len c.in-Path.closed c.in-Path.next c.in-Path.is c.part.result.now c.at_fault.result c.part.ensures c.at_fault.ensures c.if-at_fault.false)
+pub loop-index-preserved : goal.loop-index-preserved
+loop-index-preserved c = (
+  c.in-Some.ensures.goes.keeps,
+  tt,
+  at_good (paths_judged 0 (given c.args.list.now)) c.loop-index.index-iterator.count (paths_left c.loop-index.index-iterator.iter) c.loop-index.invariant.2 (given_path c.in-Some.given) (paths_left c.next.new.self.iter) c.in-Some.ensures.steps.0
+      (ap (λ (i : ℕ). path_at_fault i (given_path c.in-Some.given)) (sym c.in-Some.ensures.steps.1) ∙ sym c.at_fault.ensures ∙ c.if-at_fault.false)
+      ∙ ap (λ (i : ℕ). paths_judged i (paths_left c.next.new.self.iter)) (sym c.in-Some.ensures.steps.2),
+)
 
-pub loop-len-smaller : goal.loop-len-smaller
-loop-len-smaller c = omega (arith, (ahead c.args.list.now c.loop-len.at c.loop-len.index c.loop-len.invariant.1 c.entry_at.result c.entry_at.ensures c.in-Path.len c.in-Path.closed c.in-Path.next c.in-Path.is).0, (ahead c.args.list.now c.loop-len.at c.loop-len.index c.loop-len.invariant.1 c.entry_at.result c.entry_at.ensures c.in-Path.len c.in-Path.closed c.in-Path.next c.in-Path.is).1)
-
-pub loop-len-preserved : goal.loop-len-preserved
-loop-len-preserved c = ((ahead c.args.list.now c.loop-len.at c.loop-len.index c.loop-len.invariant.1 c.entry_at.result c.entry_at.ensures c.in-Path.len c.in-Path.closed c.in-Path.next c.in-Path.is).1, at_good c.args.list.now c.loop-len.at c.loop-len.index c.loop-len.invariant.1 c.entry_at.result c.entry_at.ensures c.in-Path.len c.in-Path.closed c.in-Path.next c.in-Path.is c.part.result.now c.at_fault.result c.part.ensures c.at_fault.ensures c.if-at_fault.false)
+pub returns : goal.returns
+returns c = at_done (paths_judged 0 (given c.args.list.now)) c.loop-index.index-iterator.count (paths_left c.loop-index.index-iterator.iter) c.loop-index.invariant.2 c.in-None.ensures.steps.0.0

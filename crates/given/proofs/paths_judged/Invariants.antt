@@ -1,11 +1,11 @@
 -- `paths_judged` meets its contract. The invariant: the rest of the list, judged from here, is the whole list judged.
-use Prim.Native.Nat.{◌-◌, ◌≤◌}
-use lib.ListN.{length}
-use Rattle.given.proofs.Turns.{Rest}
+use mathlib.Core.Path.{◌≡◌}
+use Rattle.rules.specs.Derivation.{given, paths_judged}
+use Rattle.given.specs.Entries.{paths_left}
 use Rattle.given.proofs.paths_judged.Given as goal
 
-abbrev pub invariant-loop-len : goal.invariant-loop-len
-invariant-loop-len l = (l.at ≤ length l.list) × Rest l.list l.at l.index
-
-abbrev pub decreases-loop-len : goal.decreases-loop-len
-decreases-loop-len l = length l.list - l.at
+abbrev pub invariant-loop-index : goal.invariant-loop-index
+invariant-loop-index l =
+    (goal.iterator-loop-index).can_next l.index-iterator
+    × (goal.iterator-loop-index).is_finite l.index-iterator
+    × (paths_judged 0 (given l.list) ≡ paths_judged l.index-iterator.count (paths_left l.index-iterator.iter))

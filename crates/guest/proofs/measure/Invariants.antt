@@ -5,7 +5,7 @@ use Rattle.guest.proofs.Counted.{Measures}
 use Rattle.guest.proofs.measure.Given as goal
 
 abbrev pub invariant-loop-kind : goal.invariant-loop-kind
-invariant-loop-kind l = Measures l.structure l.strings l.initial.work l.work l.at l.walk l.sum
+invariant-loop-kind l = Measures l.block.structure.now l.block.strings.now l.initial.work l.work l.at l.walk l.sum
 
 abbrev pub decreases-loop-kind : goal.decreases-loop-kind
-decreases-loop-kind l = length l.structure - l.at
+decreases-loop-kind l = length l.block.structure.now - l.at

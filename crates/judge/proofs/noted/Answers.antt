@@ -1,16 +1,19 @@
-use mathlib.Core.Path.{refl, sym, ◌∙◌}
-use native.Mathlib.Omega.{arith}
-use Rattle.rules.proofs.Laws.Writer.{one_of_take_here, one_of_more, one_of_take_end}
+-- `noted` meets its contract.
+use mathlib.Core.Path.{◌≡◌, refl, ap₂, ◌∙◌}
+use mathlib.Core.Bool.{◌||◌}
+use mathlib.Core.List.{List, [], ◌∷◌}
+use Prim.Native.Nat.{ℕ}
+use lib.Dec.{eqb}
+use lib.ListN.{take}
+use Rattle.std.specs.List.{list_any}
+use Rattle.rules.specs.Lists.{one_of}
+use Rattle.rules.proofs.Laws.Tests.{eqb_sym}
 use Rattle.judge.proofs.noted.Goals as goal
 
-pub loop-i-init : goal.loop-i-init
-loop-i-init c = (omega arith, refl)
-
-pub returns-then-val-phandles : goal.returns-then-val-phandles
-returns-then-val-phandles c = sym (c.loop-i.invariant.1 ∙ one_of_take_here c.args.val c.args.phandles.now c.args.n c.loop-i.i (omega arith) (omega arith) c.if-val-phandles.true)
-
-pub loop-i-preserved : goal.loop-i-preserved
-loop-i-preserved c = (omega arith, c.loop-i.invariant.1 ∙ one_of_more c.args.val c.args.phandles.now c.args.n c.loop-i.i (omega arith) (omega arith) c.if-val-phandles.false)
+any_is_one_of : (v : ℕ) (xs : List ℕ) → list_any (λ (y : ℕ). eqb y v) xs ≡ one_of v xs
+unfolding one_of
+any_is_one_of v [] = refl
+any_is_one_of v (x ∷ xs) = ap₂ (λ a b. a || b) (eqb_sym x v) (any_is_one_of v xs)
 
 pub returns : goal.returns
-returns c = sym (c.loop-i.invariant.1 ∙ one_of_take_end c.args.val c.args.phandles.now c.args.n c.loop-i.i (omega arith))
+returns c = c.contains.ensures.value ∙ any_is_one_of c.args.val (take c.args.n c.args.phandles.now)

@@ -1,50 +1,35 @@
--- `node_name_valid` meets its contract: at each return the tests that led there say which case of the rule holds.
-use mathlib.Core.Path.{◌≡◌, sym, ap, ◌∙◌}
-use mathlib.Core.Bool.{true, false}
-use Prim.Native.Nat.{◌+◌}
-use native.Mathlib.Omega.{arith}
-use borrow.Author.Tests.{le-leb, lt-leb}
-use lib.ListN.{take}
-use lib.Seq.{length-take-le}
+-- `node_name_valid` meets its contract.
+use Rattle.std.proofs.Common.{◌≡◌, ◌+◌, ◌&&◌, refl, sym, ap, ◌∙◌, arith, take, length-take-le, eqb-true}
+use Rattle.std.proofs.lemmas.Bool.{eqb-false}
 use Rattle.rules.specs.Ceilings.{node_name_ceiling}
-use Rattle.rules.specs.Names.{node_char}
+use Rattle.rules.specs.Names.{within, node_char}
 use Rattle.rules.specs.Lists.{every}
-use Rattle.rules.proofs.Laws.Octets.{take_rest, to_le}
-use Rattle.rules.proofs.Laws.Names.{node_empty, node_rule, every_end}
+use Rattle.rules.proofs.Laws.Octets.{to_le}
+use Rattle.rules.proofs.Laws.Names.{node_empty, node_rule}
+use Rattle.names.proofs.Chars.{in_range, and_then, and_else, rest_or_nothing}
 use Rattle.names.proofs.node_name_valid.Goals as goal
+use Rattle.names.proofs.node_name_valid.Goals.{then-contains, else-contains}
 
-pub returns-then-name-eq0 : goal.returns-then-name-eq0
-returns-then-name-eq0 c = sym (node_empty c.args.name.now c.if-name-eq0.true)
+pub returns-then-is_empty : goal.returns-then-is_empty
+returns-then-is_empty c = sym (node_empty c.args.name.now (eqb-true _ 0 (sym c.is_empty.ensures ∙ c.if-is_empty.true)))
 
-pub returns-then-n-eq0 : goal.returns-then-n-eq0
-returns-then-n-eq0 c = rw (node_rule c.args.name.now c.length_to-n.result c.if-name-eq0.false c.length_to-n.ensures, lt-leb 1 c.length_to-n.result (omega arith))
+pub slice_bounds-node_name_chars-end : goal.slice_bounds-node_name_chars-end
+slice_bounds-node_name_chars-end c = sym (length-take-le c.length_to-n.result c.args.name.now (omega (arith, c.length_to-n.ensures, to_le 64 c.args.name.now)))
 
-pub returns-then-n-gt-NODE_NAME_MAX_LEN : goal.returns-then-n-gt-NODE_NAME_MAX_LEN
+pub returns-then-node_name_chars : goal.returns-then-node_name_chars
 unfolding node_name_ceiling
-returns-then-n-gt-NODE_NAME_MAX_LEN c = rw (node_rule c.args.name.now c.length_to-n.result c.if-name-eq0.false c.length_to-n.ensures, le-leb 1 c.length_to-n.result (omega arith), lt-leb c.length_to-n.result 31 (omega arith))
-
-pub slice_bounds-name_chars-end : goal.slice_bounds-name_chars-end
-slice_bounds-name_chars-end c = sym (length-take-le c.length_to-n.result c.args.name.now (omega (arith, c.length_to-n.ensures, to_le 64 c.args.name.now)))
-
-pub returns-then-not-name_chars : goal.returns-then-not-name_chars
-unfolding node_name_ceiling
-returns-then-not-name_chars c =
+returns-then-node_name_chars c =
+    let s = c.args.name.now in
     let n = c.length_to-n.result in
-    let front : every node_char (take n c.args.name.now) ≡ false = sym c.name_chars.ensures ∙ c.if-not-name_chars.true in
-    rw (node_rule c.args.name.now n c.if-name-eq0.false c.length_to-n.ensures, le-leb 1 n (omega arith), le-leb n 31 (omega arith), front)
+    let range : c.contains.result ≡ within 1 31 n = rw (c.new.ensures.start, c.new.ensures.end, c.new.ensures.exhausted) at c.contains.ensures.value ∙ in_range 1 31 n in
+    let front : c.if-contains.value ≡ within 1 31 n && every node_char (take n s) = elim c.if-contains.branch [ then-contains w ↦ w.value-is ∙ and_then (sym range ∙ w.if-contains.true) w.node_name_chars.ensures | else-contains w ↦ w.value-is ∙ and_else _ range w.if-contains.false ] in
+    rw (node_rule s n (eqb-false _ 0 (sym c.is_empty.ensures ∙ c.if-is_empty.false)) c.length_to-n.ensures) (and_then (sym front ∙ c.if-node_name_chars.true) (c.node_name_chars-then-node_name_chars.ensures ∙ ap (every node_char) (ap (λ (b : _). b.now) c.unwrap_or.ensures ∙ rest_or_nothing s (n + 1) _ c.get.result refl c.get.ensures.lookup)))
 
-pub returns-then-n-name : goal.returns-then-n-name
+pub returns-else-node_name_chars : goal.returns-else-node_name_chars
 unfolding node_name_ceiling
-returns-then-n-name c =
+returns-else-node_name_chars c =
+    let s = c.args.name.now in
     let n = c.length_to-n.result in
-    let front : every node_char (take n c.args.name.now) ≡ true = sym c.name_chars.ensures ∙ c.if-not-name_chars.false in
-    rw (node_rule c.args.name.now n c.if-name-eq0.false c.length_to-n.ensures, le-leb 1 n (omega arith), le-leb n 31 (omega arith), front)
-    (c.name_chars-then-n-name.ensures ∙ ap (every node_char) (take_rest (n + 1) c.args.name.now))
-
-pub returns : goal.returns
-unfolding node_name_ceiling
-returns c =
-    let n = c.length_to-n.result in
-    let front : every node_char (take n c.args.name.now) ≡ true = sym c.name_chars.ensures ∙ c.if-not-name_chars.false in
-    rw (node_rule c.args.name.now n c.if-name-eq0.false c.length_to-n.ensures, le-leb 1 n (omega arith), le-leb n 31 (omega arith), front)
-    (sym (every_end node_char c.args.name.now (n + 1) (omega arith)))
+    let range : c.contains.result ≡ within 1 31 n = rw (c.new.ensures.start, c.new.ensures.end, c.new.ensures.exhausted) at c.contains.ensures.value ∙ in_range 1 31 n in
+    let front : c.if-contains.value ≡ within 1 31 n && every node_char (take n s) = elim c.if-contains.branch [ then-contains w ↦ w.value-is ∙ and_then (sym range ∙ w.if-contains.true) w.node_name_chars.ensures | else-contains w ↦ w.value-is ∙ and_else _ range w.if-contains.false ] in
+    rw (node_rule s n (eqb-false _ 0 (sym c.is_empty.ensures ∙ c.if-is_empty.false)) c.length_to-n.ensures) (and_else _ front c.if-node_name_chars.false)

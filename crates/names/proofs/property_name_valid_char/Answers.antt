@@ -1,10 +1,16 @@
 -- `property_name_valid_char` meets its contract.
-use mathlib.Core.Path.{sym, ◌∙◌}
-use Rattle.rules.proofs.Laws.Names.{property_more, property_other}
+use Rattle.std.proofs.Common.{sym, ◌∙◌}
+use Rattle.rules.specs.Names.{property_char}
+use Rattle.names.proofs.Chars.{any_one_of, or_then, or_else}
 use Rattle.names.proofs.property_name_valid_char.Goals as goal
 
-pub returns-in-63 : goal.returns-in-63
-returns-in-63 c = sym (property_more c.args.c c.in-63.is)
+pub returns-then-node_name_valid_char : goal.returns-then-node_name_valid_char
+unfolding property_char
+returns-then-node_name_valid_char c =
+    let t = c.if-node_name_valid_char.true in
+    or_then _ (sym c.node_name_valid_char.ensures ∙ t) t
 
-pub returns-in_default : goal.returns-in_default
-returns-in_default c = c.node_name_valid_char.ensures ∙ sym (property_other c.args.c c.in_default.in_default-own.rest.1)
+pub returns-else-node_name_valid_char : goal.returns-else-node_name_valid_char
+unfolding property_char
+returns-else-node_name_valid_char c =
+    or_else (sym c.node_name_valid_char.ensures ∙ c.if-node_name_valid_char.false) (c.contains.ensures.value ∙ any_one_of c.args.c _)

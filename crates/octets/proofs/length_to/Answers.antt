@@ -1,12 +1,13 @@
-use native.Mathlib.Omega.{arith}
+use Rattle.std.proofs.Common.{ap, arith}
+use Rattle.rules.specs.Octets.{length_to}
 use Rattle.rules.proofs.Laws.Octets.{to_here, to_more, to_end}
 use Rattle.octets.proofs.length_to.Goals as goal
 
-pub returns-then-s-end : goal.returns-then-s-end
-returns-then-s-end c = omega (arith, to_here c.args.value c.args.s.now c.loop-end.end c.loop-end-test.true c.if-s-end.true)
+pub returns-then-b-value : goal.returns-then-b-value
+returns-then-b-value c = let left = c.rest-left.result.now in omega (arith, to_here c.args.value left c.loop-i.i (omega arith) c.if-b-value.true, ap (length_to c.args.value) c.rest-left.ensures)
 
-pub loop-end-preserved : goal.loop-end-preserved
-loop-end-preserved c = omega (arith, to_more c.args.value c.args.s.now c.loop-end.end c.loop-end-test.true c.if-s-end.false)
+pub loop-i-preserved : goal.loop-i-preserved
+loop-i-preserved c = omega (arith, to_more c.args.value c.rest-left.result.now c.loop-i.i (omega arith) c.if-b-value.false)
 
 pub returns : goal.returns
-returns c = omega (arith, to_end c.args.value c.args.s.now c.loop-end.end c.loop-end-test.false)
+returns c = omega (arith, to_end c.args.value c.rest-left.result.now c.loop-i.i (omega arith), ap (length_to c.args.value) c.rest-left.ensures)

@@ -1,22 +1,11 @@
--- `long` meets its contract: two words, of which the second reads 0 where it is past the end.
-use mathlib.Core.Path.{sym, ◌∙◌}
-use Prim.Native.Nat.{◌+◌, ◌<◌}
-use native.Mathlib.Omega.{arith}
-use lib.ListN.{length}
-use borrow.Author.Tests.{ltb-true, ltb-false}
-use Rattle.rules.specs.Octets.{long_at}
-use Rattle.rules.proofs.Laws.Octets.{word_past}
+-- `long` meets its contract.
+use Rattle.std.proofs.Common.{arith, add-zero, add_assoc}
+use Rattle.rules.specs.Octets.{word_at, long_at}
 use Rattle.octets.proofs.long.Goals as goal
 
-pub overflow_add-at : goal.overflow_add-at
-overflow_add-at c =
-    let h : c.args.at + 4 < length c.args.s.now = ltb-true _ _ (sym c.inside.ensures ∙ c.if-inside.true) in
-    omega arith
-
-pub returns-then-inside : goal.returns-then-inside
-unfolding long_at
-returns-then-inside c = omega (arith, c.word-high.ensures, c.word-low.ensures)
-
 pub returns : goal.returns
-unfolding long_at
-returns c = omega (arith, c.word-high.ensures, word_past c.args.s.now (c.args.at + 4) (ltb-false _ _ (sym c.inside.ensures ∙ c.if-inside.false)))
+unfolding word_at long_at
+returns c =
+    let b = c.bytes.ensures in
+    let at = c.args.at in
+    rw (add_assoc at 4 1, add_assoc at 4 2, add_assoc at 4 3) (omega (arith, c.from_be_bytes.ensures, rw add-zero at (b 0 (omega arith)), b 1 (omega arith), b 2 (omega arith), b 3 (omega arith), b 4 (omega arith), b 5 (omega arith), b 6 (omega arith), b 7 (omega arith)))

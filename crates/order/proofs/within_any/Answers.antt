@@ -1,24 +1,18 @@
-use mathlib.Core.Path.{refl, sym, ◌∙◌}
-use native.Mathlib.Omega.{arith}
+-- `within_any` meets its contract: node by node.
+use mathlib.Core.Bool.{◌||◌}
+use mathlib.Core.Path.{◌∙◌}
+use Prim.Native.Nat.{ℕ}
+use lib.Dec.{eqb}
+use Rattle.std.proofs.Common.{rules, tests}
+use Rattle.std.proofs.lemmas.Iterator.{YieldsList-from_slice}
+use Rattle.std.proofs.lemmas.Iterator.Search.{any_from_yields_List}
 use Rattle.rules.specs.Tree.{frame}
-use Rattle.rules.specs.Laws.Tabled.{tree_in}
-use Rattle.order.proofs.Tests.{within_end, within_here, within_below, within_past}
+use Rattle.rules.specs.Laws.Lent.{tree_lent}
+use Rattle.order.proofs.Tests.{within_one}
 use Rattle.order.proofs.within_any.Goals as goal
 
-pub loop-k-init : goal.loop-k-init
-loop-k-init c = (omega arith, λ b. refl)
-
-pub overflow_cast-p : goal.overflow_cast-p
-overflow_cast-p c = omega (arith, c.shared_slice_known-in-loop-k-1.given c.loop-k.k)
-
-pub returns-then-i-p : goal.returns-then-i-p
-returns-then-i-p c = λ b. sym (c.loop-k.invariant.1 b ∙ within_here (frame (tree_in b c.args.work.now c.args.count)) c.args.nodes.now c.args.i c.loop-k.k c.loop-k-test.true c.if-i-p.true)
-
-pub returns-then-below : goal.returns-then-below
-returns-then-below c = λ b. sym (c.loop-k.invariant.1 b ∙ within_below (frame (tree_in b c.args.work.now c.args.count)) c.args.nodes.now c.args.i c.loop-k.k c.loop-k-test.true (sym (c.below.ensures b) ∙ c.if-below.true))
-
-pub loop-k-preserved : goal.loop-k-preserved
-loop-k-preserved c = (omega arith, λ b. c.loop-k.invariant.1 b ∙ within_past (frame (tree_in b c.args.work.now c.args.count)) c.args.nodes.now c.args.i c.loop-k.k c.loop-k-test.true c.if-i-p.false (sym (c.below.ensures b) ∙ c.if-below.false))
-
 pub returns : goal.returns
-returns c = λ b. sym (c.loop-k.invariant.1 b ∙ within_end (frame (tree_in b c.args.work.now c.args.count)) c.args.nodes.now c.args.i c.loop-k.k c.loop-k-test.false)
+returns c =
+    let f = frame (tree_lent c.args.tree.now) in
+    let called = any_from_yields_List (λ (p : ℕ). eqb c.args.i p || f.below p c.args.i) _ _ c.any.result c.any.ensures.ran (YieldsList-from_slice c.args.nodes.now c.iter.ensures.rest) (λ x b q k. search (rules, tests)) in
+    called ∙ within_one f c.args.nodes.now c.args.i

@@ -1,11 +1,9 @@
-use mathlib.Core.Path.{sym, ◌∙◌}
 use native.Mathlib.Omega.{arith}
-use lib.ListN.{length-set}
 use Rattle.printed.proofs.Spelling.{spelling_none, spelling_place, spelling_more, spelling_last}
 use Rattle.printed.proofs.spell.Goals as goal
 
 pub loop-rest-init : goal.loop-rest-init
-loop-rest-init c = spelling_none c.args.n c.args.text.now c.requires (omega arith)
+loop-rest-init c = spelling_none c.args.n c.args.text.now (omega arith) (omega arith)
 
 pub overflow_sub-first-in-loop-rest : goal.overflow_sub-first-in-loop-rest
 overflow_sub-first-in-loop-rest c = omega (arith, spelling_place c.loop-rest.invariant c.loop-rest-test.true)
@@ -15,9 +13,6 @@ loop-rest-smaller c = omega (arith, spelling_place c.loop-rest.invariant c.loop-
 
 pub loop-rest-preserved : goal.loop-rest-preserved
 loop-rest-preserved c = rw c.digit.ensures (spelling_more c.loop-rest.invariant c.loop-rest-test.true)
-
-pub shape_of-text : goal.shape_of-text
-shape_of-text c = simp length-set (c.loop-rest.invariant.long ∙ sym c.requires)
 
 pub returns : goal.returns
 returns c = (c.loop-rest.invariant.inside, rw c.digit-2.ensures (spelling_last c.loop-rest.invariant c.loop-rest-test.false))

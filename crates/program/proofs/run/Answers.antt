@@ -1,34 +1,15 @@
--- `run` meets its contract: the input's refusal, the host's, and else the derivation.
-use native.Mathlib.Omega.{arith}
-use lib.ListN.{length}
+-- `run` meets its contract: the program's own refusal, and else the derivation.
 use Rattle.rules.specs.Ceilings.{program_ceiling}
-use Rattle.program.proofs.Judged.{input_refused, host_refused, input_passes, host_passes, input_short, refused_whole}
-use borrow.Author.Rules.{rules}
+use Rattle.program.proofs.Judged.{passed, input_short, refused_whole}
 use Rattle.program.proofs.run.Goals as goal
 
-pub returns-in-Refused : goal.returns-in-Refused
-returns-in-Refused c =
-    let host = c.args.host.now in
-    let input = c.args.input.now in
-    let guest = c.args.guest.now in
-    let o = input_refused host input (length guest) c.input_judged.result c.in-Refused.at c.input_judged.ensures c.in-Refused.is in
-    let t = refused_whole host input guest c.args.text.now 41 c.in-Refused.at (omega arith) (search rules) o c.refused.result _ c.refused.ensures.value c.refused.ensures.text_after in
-    record { value = t.0; text_after = t.1; guest_after = t.2; guest_len_bound = t.3 }
-
-pub returns-then-host-gt-PROGRAM_CEILING : goal.returns-then-host-gt-PROGRAM_CEILING
+pub returns-in-Err : goal.returns-in-Err
 unfolding program_ceiling
-returns-then-host-gt-PROGRAM_CEILING c =
-    let host = c.args.host.now in
-    let input = c.args.input.now in
-    let guest = c.args.guest.now in
-    let p = input_passes input c.input_judged.result c.input_judged.ensures c.in_default.is in
-    let o = host_refused host input (length guest) p c.if-host-gt-PROGRAM_CEILING.true in
-    let t = refused_whole host input guest c.args.text.now 3 0 (omega arith) (omega arith) o c.refused-then-host-gt-PROGRAM_CEILING.result _ c.refused-then-host-gt-PROGRAM_CEILING.ensures.value c.refused-then-host-gt-PROGRAM_CEILING.ensures.text_after in
+returns-in-Err c =
+    let t = refused_whole c.args.host.now c.args.input.now c.tested.result c.tested.ensures c.in-Err.refusal c.in-Err.is c.args.guest.now c.args.text.now c.refused.result c.refused.new.text c.refused.ensures.value c.refused.ensures.text_after c.refused.ensures.text_short in
     record { value = t.0; text_after = t.1; guest_after = t.2; guest_len_bound = t.3 }
 
 pub derived-requires : goal.derived-requires
-unfolding program_ceiling
 derived-requires c =
-    let input = c.args.input.now in
-    let p = input_passes input c.input_judged.result c.input_judged.ensures c.in_default.is in
-    (p, host_passes c.args.host.now c.if-host-gt-PROGRAM_CEILING.false, input_short input p)
+    let p = passed c.args.host.now c.args.input.now c.tested.result c.tested.ensures tt c.in-Ok.is in
+    (p.0, p.1, input_short c.args.input.now p.0)

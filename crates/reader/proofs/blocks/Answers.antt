@@ -2,35 +2,41 @@
 use mathlib.Core.Path.{subst}
 use native.Mathlib.Omega.{arith}
 use Rattle.rules.specs.Blob.{Block}
-use Rattle.reader.specs.declared.Answer.TheVariants.{Refused}
 use Rattle.reader.specs.Whole.{Judged}
+use Rattle.std.specs.Prelude.{Err}
+use Rattle.std.proofs.lemmas.Result.{err_from_is_err_and}
 use Rattle.reader.proofs.Joined.{structure_end, strings_end, block_is, part_short, tabled, paired, shape_refused}
 use Rattle.reader.proofs.blocks.Goals as goal
 
-pub overflow_add-end : goal.overflow_add-end
-overflow_add-end c = omega (arith, structure_end c.requires.found)
+pub overflow_add-block : goal.overflow_add-block
+overflow_add-block c = omega (arith, structure_end c.requires.found)
 
-pub overflow_add-to : goal.overflow_add-to
-overflow_add-to c = omega (arith, strings_end c.requires.found)
+pub slice_bounds-block-end : goal.slice_bounds-block-end
+slice_bounds-block-end c = omega (arith, structure_end c.requires.found)
 
-pub slice_bounds-structure-end : goal.slice_bounds-structure-end
-slice_bounds-structure-end c = omega (arith, structure_end c.requires.found)
+pub overflow_add-block-2 : goal.overflow_add-block-2
+overflow_add-block-2 c = omega (arith, strings_end c.requires.found)
 
-pub slice_bounds-strings-end : goal.slice_bounds-strings-end
-slice_bounds-strings-end c = omega (arith, strings_end c.requires.found)
+pub slice_bounds-block-end-2 : goal.slice_bounds-block-end-2
+slice_bounds-block-end-2 c = omega (arith, strings_end c.requires.found)
 
-pub judge-requires : goal.judge-requires
-judge-requires c = record { structure_bound = part_short c.requires.found; work_words_in_bounds = c.requires.work_words_in_bounds; work_value = c.requires.work_value }
+pub judge-requires-clause-structure_bound : goal.judge-requires-clause-structure_bound
+judge-requires-clause-structure_bound c = part_short c.requires.found
 
-pub judge-requires-in-Nodes : goal.judge-requires-in-Nodes
-judge-requires-in-Nodes c = record { structure_bound = part_short c.requires.found; tabled = tabled c.judge.ensures c.in-Nodes.is c.requires.work_words_in_bounds }
+pub returns-in_err-count : goal.returns-in_err-count
+returns-in_err-count c =
+    let p = err_from_is_err_and c.from_residual.result c.from_residual.ensures.1 in
+    rw p.1
+    (subst (λ (b : Block). Judged b c.args.work.now c.judge.new.work (Err p.0)) (block_is c.requires.found)
+    (shape_refused p.0 p.2 c.in_err-count.was c.judge.ensures))
 
-pub returns-in-Refused : goal.returns-in-Refused
-returns-in-Refused c =
-    subst (λ (b : Block). Judged b c.args.work.now c.judge.new.work (Refused c.by_shape.result)) (block_is c.requires.found)
-    (shape_refused c.by_shape.result c.by_shape.ensures c.in-Refused.is c.judge.ensures)
+pub judge-requires-2-clause-structure_bound : goal.judge-requires-2-clause-structure_bound
+judge-requires-2-clause-structure_bound c = part_short c.requires.found
 
-pub returns-in-Nodes : goal.returns-in-Nodes
-returns-in-Nodes c =
-    subst (λ (b : Block). Judged b c.args.work.now c.judge-in-Nodes.new.work c.judge-in-Nodes.result) (block_is c.requires.found)
-    (paired c.judge.ensures c.in-Nodes.is c.requires.work_words_in_bounds c.judge-in-Nodes.ensures)
+pub judge-requires-2-clause-tabled : goal.judge-requires-2-clause-tabled
+judge-requires-2-clause-tabled c = tabled c.judge.ensures c.in_ok-count.was c.requires.work_words_in_bounds
+
+pub returns : goal.returns
+returns c =
+    subst (λ (b : Block). Judged b c.args.work.now c.judge-2.new.work c.judge-2.result) (block_is c.requires.found)
+    (paired c.judge.ensures c.in_ok-count.was c.requires.work_words_in_bounds c.judge-2.ensures)

@@ -1,26 +1,30 @@
-use native.Mathlib.Omega.{arith}
+use mathlib.Core.Path.{sym, ap, ◌∙◌}
 use borrow.Author.Tests.{lt-ltb}
 use Rattle.rules.specs.Ceilings.{program_ceiling}
-use Rattle.rules.specs.Program.{input_judged}
-use Rattle.request.proofs.Turns.{at_start_lem, at_done, at_fault, at_good, further, inside}
+use Rattle.rules.specs.Program.{is_other, lines_judged, input_judged}
+use Rattle.request.specs.Lines.{lines_left}
+use Rattle.request.proofs.Entered.{one_of_three}
+use Rattle.request.proofs.Turns.{judged_lines, at_done, at_fault, at_good}
 use Rattle.request.proofs.input_judged.Goals as goal
 
 pub returns-then-input-gt-PROGRAM_CEILING : goal.returns-then-input-gt-PROGRAM_CEILING
 unfolding input_judged program_ceiling
 returns-then-input-gt-PROGRAM_CEILING c = simp (lt-ltb _ _ c.if-input-gt-PROGRAM_CEILING.true)
 
-pub loop-len-init : goal.loop-len-init
+pub loop-offset-init : goal.loop-offset-init
 unfolding program_ceiling
-loop-len-init c = (omega arith, at_start_lem c.args.input.now c.if-input-gt-PROGRAM_CEILING.false)
+loop-offset-init c =
+    judged_lines c.args.input.now c.if-input-gt-PROGRAM_CEILING.false
+    ∙ sym (ap lines_judged (ap lines_left c.into_iter-offset-iterator.ensures.into_iter_gives ∙ c.of-offset-items.ensures))
 
-pub returns-in_default : goal.returns-in_default
-returns-in_default c = at_done c.args.input.now c.loop-len.at c.loop-len.invariant.1 c.line_at.result c.line_at.ensures c.in_default.is
+pub returns-in-Other : goal.returns-in-Other
+returns-in-Other c =
+    at_fault (input_judged c.args.input.now) (lines_left c.loop-offset.offset-iterator) c.loop-offset.invariant _ (lines_left c.next.new.self) c.in-Some.ensures.steps (sym (ap is_other c.in-Other.ensures))
 
-pub returns-then-is_other : goal.returns-then-is_other
-returns-then-is_other c = at_fault c.args.input.now c.loop-len.at c.line_at.result c.line_at.ensures c.in-Text.len c.in-Text.next c.in-Text.is c.loop-len.invariant.1 c.part.result.now c.is_other.result c.part.ensures c.is_other.ensures c.if-is_other.true
+pub loop-offset-preserved : goal.loop-offset-preserved
+loop-offset-preserved c =
+    at_good (input_judged c.args.input.now) (lines_left c.loop-offset.offset-iterator) c.loop-offset.invariant _ (lines_left c.next.new.self) c.in-Some.ensures.steps
+    (one_of_three c.line_said.result c.in-Some.text.now c.line_said.ensures c.in_default.not-Other)
 
-pub loop-len-smaller : goal.loop-len-smaller
-loop-len-smaller c = omega (arith, further c.args.input.now c.loop-len.at c.line_at.result c.line_at.ensures c.in-Text.len c.in-Text.next c.in-Text.is, inside c.args.input.now c.loop-len.at c.line_at.result c.line_at.ensures c.in-Text.len c.in-Text.next c.in-Text.is)
-
-pub loop-len-preserved : goal.loop-len-preserved
-loop-len-preserved c = (inside c.args.input.now c.loop-len.at c.line_at.result c.line_at.ensures c.in-Text.len c.in-Text.next c.in-Text.is, at_good c.args.input.now c.loop-len.at c.line_at.result c.line_at.ensures c.in-Text.len c.in-Text.next c.in-Text.is c.loop-len.invariant.1 c.part.result.now c.is_other.result c.part.ensures c.is_other.ensures c.if-is_other.false)
+pub returns : goal.returns
+returns c = at_done (input_judged c.args.input.now) (lines_left c.loop-offset.offset-iterator) c.loop-offset.invariant c.in-None.ensures.steps.0

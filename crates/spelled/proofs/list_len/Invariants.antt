@@ -1,16 +1,11 @@
--- `list_len` meets its contract. The invariant: the paths of the first k nodes are counted.
+-- `list_len` meets its contract. The invariant: the paths of the nodes so far are counted.
 use mathlib.Core.Path.{◌≡◌}
-use Prim.Native.Nat.{◌+◌, ◌-◌, ◌*◌, ◌≤◌}
+use Prim.Native.Nat.{◌+◌, ◌*◌, ◌≤◌}
 use lib.ListN.{length}
-use Rattle.rules.specs.Octets.{Bytes}
 use Rattle.rules.proofs.Laws.Kept.{longest}
-use Rattle.rules.specs.Laws.Tabled.{tree_of}
-use Rattle.spelled.specs.Lists.{list_bytes}
+use Rattle.rules.specs.Laws.Lent.{tree_lent}
+use Rattle.spelled.proofs.Spelt.{first_paths}
 use Rattle.spelled.proofs.list_len.Given as goal
 
-abbrev pub invariant-loop-k : goal.invariant-loop-k
-invariant-loop-k l =
-    (l.k ≤ l.n) × (l.len ≤ l.k * (longest + 1)) × ((strings : Bytes) → l.len ≡ length (list_bytes (tree_of l.place l.structure strings l.work l.count) l.work l.k))
-
-abbrev pub decreases-loop-k : goal.decreases-loop-k
-decreases-loop-k l = l.n - l.k
+abbrev pub invariant-loop-i : goal.invariant-loop-i
+invariant-loop-i l = (l.len ≤ l.i-index * (longest + 1)) × (l.len ≡ length (first_paths (tree_lent l.tree) l.i-items l.i-index))

@@ -1,15 +1,14 @@
 use mathlib.Core.Path.{refl, sym, ◌∙◌}
 use native.Mathlib.Omega.{arith}
 use Rattle.rules.proofs.Laws.Tokens.{item_ahead}
-use Rattle.tokens.proofs.Properties.{property_stop, property_nop, property_here, property_begin, property_end}
-use borrow.Enum.Refused.{opened}
+use Rattle.tokens.proofs.Properties.{property_stop, property_nop, property_here, property_past}
 use Rattle.tokens.proofs.property_at.Goals as goal
 
 pub loop-kind-init : goal.loop-kind-init
 loop-kind-init c = refl
 
-pub returns-in_default : goal.returns-in_default
-returns-in_default c = sym (c.loop-kind.invariant ∙ property_stop c.args.structure.now c.loop-kind.at c.token_at.result c.token_at.ensures (opened c.in_default.in_default-own.keys2))
+pub returns : goal.returns
+returns c = sym (c.loop-kind.invariant ∙ property_stop c.args.structure.now c.loop-kind.at c.token_at.result c.token_at.ensures c.in_default.not-Item)
 
 pub loop-kind-smaller : goal.loop-kind-smaller
 loop-kind-smaller c = omega (arith, item_ahead c.args.structure.now c.loop-kind.at c.token_at.result c.in-Item.kind c.in-Item.next c.token_at.ensures c.in-Item.is)
@@ -21,7 +20,8 @@ pub returns-in-Prop : goal.returns-in-Prop
 returns-in-Prop c = sym (c.loop-kind.invariant ∙ property_here c.args.structure.now c.loop-kind.at c.token_at.result c.token_at.ensures c.in-Item.kind c.in-Item.next c.in-Item.is _ _ _ c.in-Prop.is)
 
 pub returns-in-Begin : goal.returns-in-Begin
-returns-in-Begin c = sym (c.loop-kind.invariant ∙ property_begin c.args.structure.now c.loop-kind.at c.token_at.result c.token_at.ensures c.in-Item.kind c.in-Item.next c.in-Item.is _ c.in-Begin.is)
-
-pub returns-in-EndNode : goal.returns-in-EndNode
-returns-in-EndNode c = sym (c.loop-kind.invariant ∙ property_end c.args.structure.now c.loop-kind.at c.token_at.result c.token_at.ensures c.in-Item.kind c.in-Item.next c.in-Item.is c.in-EndNode.is)
+returns-in-Begin c =
+    sym (
+    c.loop-kind.invariant
+    ∙ property_past c.args.structure.now c.loop-kind.at c.token_at.result c.token_at.ensures c.in-Item.kind c.in-Item.next c.in-Item.is c.in-Begin.is
+    )

@@ -10,10 +10,6 @@ pub returns-then-structure-lt4 : goal.returns-then-structure-lt4
 unfolding token_at
 returns-then-structure-lt4 c = simp (lt-leb (c.args.at + 4) (length c.args.structure.now) (omega arith))
 
-pub returns-then-structure-at : goal.returns-then-structure-at
-unfolding token_at
-returns-then-structure-at c = simp (lt-leb (c.args.at + 4) (length c.args.structure.now) (omega arith))
-
 pub returns-in-1 : goal.returns-in-1
 unfolding token_at tagged
 returns-in-1 c = simp (le-leb (c.args.at + 4) (length c.args.structure.now) (omega arith), ← c.word-tag.ensures, c.in-1.is) c.begin_at.ensures

@@ -1,13 +1,9 @@
 -- `put_ids` meets its contract: the front holds the numbers, and the rest is what it was.
 use mathlib.Core.Path.{◌≡◌}
 use mathlib.Core.List.{◌++◌}
-use Prim.Native.Nat.{◌-◌, ◌≤◌}
-use lib.ListN.{length, drop}
+use lib.ListN.{drop}
 use Rattle.cases.specs.Case.{ids_in}
 use Rattle.cases.proofs.case.put_ids.Given as goal
 
 abbrev pub invariant-loop-i : goal.invariant-loop-i
-invariant-loop-i l = (l.i ≤ length l.initial.ids) × (l.ids ≡ ids_in l.raw 0 l.i ++ drop l.i l.initial.ids) × (length l.ids ≡ length l.initial.ids)
-
-abbrev pub decreases-loop-i : goal.decreases-loop-i
-decreases-loop-i l = length l.initial.ids - l.i
+invariant-loop-i l = l.ids ≡ ids_in l.raw 0 l.i ++ drop l.i l.initial.ids

@@ -1,23 +1,22 @@
 -- `size` meets its contract.
 use mathlib.Core.Path.{ap, ◌∙◌}
+use native.Mathlib.Omega.{arith}
 use Rattle.cases.specs.Case.{id_bytes, size_of}
 use borrow.Author.Tests.{eq-eqb, ne_eqb, lt-ltb, le-ltb}
 use Rattle.cases.proofs.case.size.Goals as goal
+use Rattle.cases.proofs.case.size.Goals.{in_default-via-then-k-lt6, in_default-via-else-k-lt6+else-k-lt10}
 
-pub returns-then-k-eq-IDS : goal.returns-then-k-eq-IDS
+pub returns-in-6 : goal.returns-in-6
 unfolding size_of
-returns-then-k-eq-IDS c = rw (eq-eqb _ _ c.if-k-eq-IDS.true) (c.id_bytes.ensures ∙ ap id_bytes c.number.ensures)
+returns-in-6 c = rw (eq-eqb _ _ c.in-6.is) (c.id_bytes.ensures ∙ ap id_bytes c.number.ensures)
 
-pub returns-then-k-lt-IDS : goal.returns-then-k-lt-IDS
+pub returns-in-7 : goal.returns-in-7
 unfolding size_of
-returns-then-k-lt-IDS c = rw (ne_eqb _ _ c.if-k-eq-IDS.false, lt-ltb _ _ c.if-k-lt-IDS.true) c.number-then-k-lt-IDS.ensures
+returns-in-7 c = rw (ne_eqb c.args.k 6 (λ e. omega arith), le-ltb c.args.k 6 (omega arith), lt-ltb c.args.k 10 (omega arith))
 
-pub returns-then-k-lt-SPANS : goal.returns-then-k-lt-SPANS
+pub returns-in_default : goal.returns-in_default
 unfolding size_of
-returns-then-k-lt-SPANS c = rw (ne_eqb _ _ c.if-k-eq-IDS.false, le-ltb _ _ c.if-k-lt-IDS.false, lt-ltb _ _ c.if-k-lt-SPANS.true)
-
-pub returns : goal.returns
-unfolding size_of
-returns c =
-    rw (ne_eqb _ _ c.if-k-eq-IDS.false, le-ltb _ _ c.if-k-lt-IDS.false, le-ltb _ _ c.if-k-lt-SPANS.false)
-    c.number-2.ensures
+returns-in_default c = elim c.in_default.branch [
+  | in_default-via-then-k-lt6 w ↦ rw (ne_eqb c.args.k 6 (λ e. omega arith), lt-ltb c.args.k 6 (omega arith)) c.number-in_default.ensures
+  | in_default-via-else-k-lt6+else-k-lt10 w ↦ rw (ne_eqb c.args.k 6 (λ e. omega arith), le-ltb c.args.k 6 (omega arith), le-ltb c.args.k 10 (omega arith)) c.number-in_default.ensures
+]

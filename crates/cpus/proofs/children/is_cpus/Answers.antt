@@ -1,17 +1,31 @@
--- `is_cpus` meets its contract.
-use mathlib.Core.Path.{sym, ap, ◌∙◌}
-use Rattle.rules.specs.Octets.{Bytes, ascii, same}
+-- `is_cpus` meets its contract: one test after the other.
+use mathlib.Core.Path.{◌≡◌, sym, ◌∙◌}
+use mathlib.Core.Bool.{not, ◌&&◌}
+use lib.Dec.{eqb}
+use borrow.Author.Tests.{eq-eqb, ne_eqb}
+use Rattle.rules.specs.Octets.{ascii}
 use Rattle.rules.specs.Tree.{frame}
-use Rattle.rules.specs.Laws.Tabled.{tree_of}
-use Rattle.cpus.proofs.Searches.{cpus_root, cpus_deep, cpus_named}
+use Rattle.rules.specs.Copy.{is_cpus}
+use Rattle.rules.specs.Laws.Lent.{tree_lent}
 use Rattle.cpus.proofs.children.is_cpus.Goals as goal
+use Rattle.cpus.proofs.children.is_cpus.Goals.{then-i-ne0, else-i-ne0}
 
-pub returns-then-i-eq0 : goal.returns-then-i-eq0
-returns-then-i-eq0 c = λ s. sym (cpus_root (frame (tree_of c.args.place c.args.structure.now s c.args.work.now c.args.count)) c.args.i c.if-i-eq0.true)
+pub returns-then-up-eq0 : goal.returns-then-up-eq0
+unfolding is_cpus ascii
+returns-then-up-eq0 c =
+    let f = frame (tree_lent c.args.tree.now) in
+    let one : c.if-i-ne0.value ≡ (not (eqb c.args.i 0) && eqb (f.up c.args.i) 0) = elim c.if-i-ne0.branch [
+      | then-i-ne0 w ↦ w.value-is ∙ simp (ne_eqb _ _ w.if-i-ne0.true, ← w.up.ensures)
+      | else-i-ne0 w ↦ w.value-is ∙ simp (eq-eqb _ _ w.if-i-ne0.false)
+    ] in
+    simp (sym one ∙ c.if-up-eq0.true, ← c.name.ensures) c.same.ensures
 
-pub returns-then-up-ne0 : goal.returns-then-up-ne0
-returns-then-up-ne0 c = λ s. sym (cpus_deep (frame (tree_of c.args.place c.args.structure.now s c.args.work.now c.args.count)) c.args.i (λ e. c.if-up-ne0.true (c.up.ensures (record { place = c.args.place; structure = c.args.structure.now; strings = s }) ∙ e)))
-
-pub returns : goal.returns
-unfolding ascii
-returns c = λ s. sym (cpus_named (frame (tree_of c.args.place c.args.structure.now s c.args.work.now c.args.count)) c.args.i c.if-i-eq0.false (sym (c.up.ensures (record { place = c.args.place; structure = c.args.structure.now; strings = s })) ∙ c.if-up-ne0.false) ∙ ap (λ (n : Bytes). same n (ascii "cpus")) (sym (c.name.ensures s)) ∙ sym c.same.ensures)
+pub returns-else-up-eq0 : goal.returns-else-up-eq0
+unfolding is_cpus ascii
+returns-else-up-eq0 c =
+    let f = frame (tree_lent c.args.tree.now) in
+    let one : c.if-i-ne0.value ≡ (not (eqb c.args.i 0) && eqb (f.up c.args.i) 0) = elim c.if-i-ne0.branch [
+      | then-i-ne0 w ↦ w.value-is ∙ simp (ne_eqb _ _ w.if-i-ne0.true, ← w.up.ensures)
+      | else-i-ne0 w ↦ w.value-is ∙ simp (eq-eqb _ _ w.if-i-ne0.false)
+    ] in
+    simp (sym one ∙ c.if-up-eq0.false, c.if-up-eq0.false)

@@ -1,14 +1,9 @@
 -- `ids_judged` meets its contract. The invariant: the rest of the ids, judged, are all of them judged.
 use mathlib.Core.Path.{◌≡◌}
-use Prim.Native.Nat.{◌-◌}
-use lib.ListN.{length, drop}
+use lib.ListN.{drop}
 use Rattle.rules.specs.Derivation.{ids_from}
-use Rattle.rules.specs.Laws.Tabled.{tree_of}
+use Rattle.rules.specs.Laws.Lent.{tree_lent}
 use Rattle.cpus.proofs.judged.ids_judged.Given as goal
 
-abbrev pub invariant-loop-k : goal.invariant-loop-k
-invariant-loop-k l =
-    ids_from (tree_of l.place l.structure l.strings l.work l.count) 0 l.ids ≡ ids_from (tree_of l.place l.structure l.strings l.work l.count) l.k (drop l.k l.ids)
-
-abbrev pub decreases-loop-k : goal.decreases-loop-k
-decreases-loop-k l = length l.ids - l.k
+abbrev pub invariant-loop-at : goal.invariant-loop-at
+invariant-loop-at l = ids_from (tree_lent l.tree) 0 l.ids ≡ ids_from (tree_lent l.tree) l.at (drop l.at l.ids)

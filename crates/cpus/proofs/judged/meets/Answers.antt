@@ -1,19 +1,10 @@
 -- `meets` meets its contract.
-use mathlib.Core.Path.{refl, sym, ap, ◌∙◌}
+use mathlib.Core.Path.{sym, ap, ◌∙◌}
 use mathlib.Core.List.{[], ◌∷◌}
-use mathlib.Core.Option.{some, none}
-use Rattle.rules.specs.Tree.{node, frame}
-use Rattle.rules.specs.Copy.{cpu_child, reg_of, is_id}
-use Rattle.rules.specs.Laws.Tabled.{tree_of}
-use Rattle.cpus.specs.Registers.{meaning}
-use Rattle.cpus.proofs.Searches.{no_child, the_child, one_only}
+use Rattle.rules.specs.Copy.{is_id}
+use Rattle.cpus.proofs.Searches.{read_one}
 use Rattle.cpus.proofs.judged.meets.Goals as goal
 
-pub returns-then-not-cpu_child : goal.returns-then-not-cpu_child
-returns-then-not-cpu_child c = sym (no_child (cpu_child (frame (tree_of c.args.place c.args.structure.now c.args.strings.now c.args.work.now c.args.count)) c.args.i) (is_id (c.args.id ∷ [])) (reg_of (node (tree_of c.args.place c.args.structure.now c.args.strings.now c.args.work.now c.args.count) c.args.i)) (sym (c.cpu_child.ensures c.args.strings.now) ∙ c.if-not-cpu_child.true))
-
-pub returns-in-Number : goal.returns-in-Number
-returns-in-Number c = the_child (cpu_child (frame (tree_of c.args.place c.args.structure.now c.args.strings.now c.args.work.now c.args.count)) c.args.i) (is_id (c.args.id ∷ [])) (reg_of (node (tree_of c.args.place c.args.structure.now c.args.strings.now c.args.work.now c.args.count) c.args.i)) (sym (c.cpu_child.ensures c.args.strings.now) ∙ c.if-not-cpu_child.false) (some c.in-Number.n) (sym (ap meaning c.in-Number.is) ∙ c.reg_at.ensures) _ (one_only c.in-Number.n c.args.id)
-
-pub returns-in-Missing : goal.returns-in-Missing
-returns-in-Missing c = the_child (cpu_child (frame (tree_of c.args.place c.args.structure.now c.args.strings.now c.args.work.now c.args.count)) c.args.i) (is_id (c.args.id ∷ [])) (reg_of (node (tree_of c.args.place c.args.structure.now c.args.strings.now c.args.work.now c.args.count) c.args.i)) (sym (c.cpu_child.ensures c.args.strings.now) ∙ c.if-not-cpu_child.false) none (sym (ap meaning c.in-Missing.is) ∙ c.reg_at.ensures) _ refl
+pub returns-then-cpu_child : goal.returns-then-cpu_child
+returns-then-cpu_child c =
+    c.eq.ensures ∙ read_one c.reg_at.result c.args.id ∙ ap (is_id (c.args.id ∷ [])) c.reg_at.ensures ∙ rw (sym c.cpu_child.ensures ∙ c.if-cpu_child.true)

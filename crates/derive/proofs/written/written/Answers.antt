@@ -1,9 +1,10 @@
 -- `written` meets its contract: listed and marked, measured, and written where both fit.
-use mathlib.Core.Path.{refl}
+use Rattle.std.proofs.lemmas.Result.{err_from_is_err_and}
 use native.Mathlib.Omega.{arith}
-use lib.ListN.{length}
-use Rattle.derive.proofs.Writing.{no_list, no_guest, both_granted, granted_guest, ready, ready_first, rest_is, writes_45, writes-46, guest-room, writes-both}
-use Rattle.rules.specs.Blob.{block_of}
+use Rattle.rules.specs.Copy.{Asked as AskedFor}
+use Rattle.rules.specs.Laws.Lent.{block_lent}
+use Rattle.derive.specs.Wanted.{wanted_lent}
+use Rattle.derive.proofs.Writing.{ready, ready_first, rest_is, writes-none, guest-room, writes-both}
 use Rattle.derive.proofs.written.written.Goals as goal
 
 pub marked-n-requires : goal.marked-n-requires
@@ -13,31 +14,83 @@ pub measure-size-requires : goal.measure-size-requires
 measure-size-requires c = (c.requires.asked.kept.small, c.requires.asked.kept.brief, omega (arith, c.requires.asked.kept.room, c.marked-n.ensures.size))
 
 pub list_len-listed-requires : goal.list_len-listed-requires
-list_len-listed-requires c = record { structure_len_bound = c.requires.asked.kept.small; count_le_node_ceiling = c.requires.asked.kept.few; n_le_node_ceiling = c.marked-n.ensures.short; work_words_in_bounds = omega (arith, (rest_is (block_of c.args.place c.args.structure.now c.args.strings.now) c.args.count (record { conf = c.args.conf.now; excl = c.args.excl.now; ids = c.args.ids.now }) c.args.work.now c.requires.asked c.requires.whole _ c.marked-n.result c.marked-n.ensures _ c.measure-size.ensures.kept).0, c.requires.asked.kept.room) }
+list_len-listed-requires c =
+    let a = c.args in
+    let p = c.requires in
+    let q : AskedFor = wanted_lent a.wanted.now in
+    let rest = rest_is (block_lent a.block.now) a.count q a.work.now p.asked p.whole _ c.marked-n.result c.marked-n.ensures _ c.measure-size.ensures.kept in
+    record {
+      structure_len_bound = p.asked.kept.small;
+      count_le_node_ceiling = p.asked.kept.few;
+      n_le_node_ceiling = c.marked-n.ensures.short;
+      work_words_in_bounds = omega (arith, rest.0, p.asked.kept.room);
+    }
 
 pub total-copied-requires : goal.total-copied-requires
 total-copied-requires c = c.measure-size.ensures.small
 
-pub guest_out-requires : goal.guest_out-requires
-guest_out-requires c = λ h. (c.requires.asked.kept.small, c.measure-size.ensures.sized, guest-room (block_of c.args.place c.args.structure.now c.args.strings.now) c.args.count (record { conf = c.args.conf.now; excl = c.args.excl.now; ids = c.args.ids.now }) c.args.work.now c.requires.asked c.requires.whole _ c.marked-n.result c.marked-n.ensures _ c.measure-size.ensures.kept c.measure-size.result (c.measure-size.ensures.sieved c.args.place (ready_first (block_of c.args.place c.args.structure.now c.args.strings.now) c.args.count (record { conf = c.args.conf.now; excl = c.args.excl.now; ids = c.args.ids.now }) c.args.work.now c.requires.asked c.requires.whole _ c.marked-n.result c.marked-n.ensures)) c.list_len-listed.result c.total-copied.result (c.list_len-listed.ensures c.args.strings.now) c.total-copied.ensures c.args.list.now c.args.guest.now c.room-most.result c.room-most.ensures (granted_guest (length c.args.list.now) c.list_len-listed.result c.room-most.result c.total-copied.result c.granted-both.result c.granted-both.ensures h))
+pub shape_of-work-in_err-granted : goal.shape_of-work-in_err-granted
+shape_of-work-in_err-granted c =
+    let a = c.args in
+    let p = c.requires in
+    let q : AskedFor = wanted_lent a.wanted.now in
+    (rest_is (block_lent a.block.now) a.count q a.work.now p.asked p.whole _ c.marked-n.result c.marked-n.ensures _ c.measure-size.ensures.kept).0
 
-pub shape_of-work-then-list-listed : goal.shape_of-work-then-list-listed
-shape_of-work-then-list-listed c = (rest_is (block_of c.args.place c.args.structure.now c.args.strings.now) c.args.count (record { conf = c.args.conf.now; excl = c.args.excl.now; ids = c.args.ids.now }) c.args.work.now c.requires.asked c.requires.whole _ c.marked-n.result c.marked-n.ensures _ c.measure-size.ensures.kept).0
+pub returns-in_err-granted : goal.returns-in_err-granted
+returns-in_err-granted c =
+    let a = c.args in
+    let p = c.requires in
+    let b = block_lent a.block.now in
+    let q : AskedFor = wanted_lent a.wanted.now in
+    let first = ready_first b a.count q a.work.now p.asked p.whole _ c.marked-n.result c.marked-n.ensures in
+    let e = err_from_is_err_and c.from_residual.result c.from_residual.ensures.1 in
+    rw (e.1, e.2) (writes-none b a.count q a.work.now p.asked p.whole _ c.marked-n.result c.marked-n.ensures _ c.measure-size.ensures.kept
+    c.measure-size.result (c.measure-size.ensures.sieved b.place first) c.list_len-listed.result c.total-copied.result
+    c.list_len-listed.ensures c.total-copied.ensures a.list.now a.guest.now c.granted.result c.granted.ensures c.in_err-granted.field-0.0 c.in_err-granted.was)
 
-pub returns-then-list-listed : goal.returns-then-list-listed
-returns-then-list-listed c = writes_45 (block_of c.args.place c.args.structure.now c.args.strings.now) c.args.count (record { conf = c.args.conf.now; excl = c.args.excl.now; ids = c.args.ids.now }) c.args.work.now c.requires.asked c.requires.whole _ c.marked-n.result c.marked-n.ensures _ c.measure-size.ensures.kept c.measure-size.result (c.measure-size.ensures.sieved c.args.place (ready_first (block_of c.args.place c.args.structure.now c.args.strings.now) c.args.count (record { conf = c.args.conf.now; excl = c.args.excl.now; ids = c.args.ids.now }) c.args.work.now c.requires.asked c.requires.whole _ c.marked-n.result c.marked-n.ensures)) c.list_len-listed.result c.total-copied.result (c.list_len-listed.ensures c.args.strings.now) c.total-copied.ensures c.args.list.now c.args.guest.now c.if-list-listed.true _ (c.guest_out.ensures.kept (no_list (length c.args.list.now) c.list_len-listed.result c.room-most.result c.total-copied.result c.granted-both.result c.granted-both.ensures c.if-list-listed.true)) _ refl
-
-pub shape_of-work-then-most-copied : goal.shape_of-work-then-most-copied
-shape_of-work-then-most-copied c = (rest_is (block_of c.args.place c.args.structure.now c.args.strings.now) c.args.count (record { conf = c.args.conf.now; excl = c.args.excl.now; ids = c.args.ids.now }) c.args.work.now c.requires.asked c.requires.whole _ c.marked-n.result c.marked-n.ensures _ c.measure-size.ensures.kept).0
-
-pub returns-then-most-copied : goal.returns-then-most-copied
-returns-then-most-copied c = writes-46 (block_of c.args.place c.args.structure.now c.args.strings.now) c.args.count (record { conf = c.args.conf.now; excl = c.args.excl.now; ids = c.args.ids.now }) c.args.work.now c.requires.asked c.requires.whole _ c.marked-n.result c.marked-n.ensures _ c.measure-size.ensures.kept c.measure-size.result (c.measure-size.ensures.sieved c.args.place (ready_first (block_of c.args.place c.args.structure.now c.args.strings.now) c.args.count (record { conf = c.args.conf.now; excl = c.args.excl.now; ids = c.args.ids.now }) c.args.work.now c.requires.asked c.requires.whole _ c.marked-n.result c.marked-n.ensures)) c.list_len-listed.result c.total-copied.result (c.list_len-listed.ensures c.args.strings.now) c.total-copied.ensures c.args.list.now c.args.guest.now (omega (arith, c.if-list-listed.false)) c.room-most.result c.room-most.ensures c.if-most-copied.true _ (c.guest_out.ensures.kept (no_guest (length c.args.list.now) c.list_len-listed.result c.room-most.result c.total-copied.result c.granted-both.result c.granted-both.ensures (omega (arith, c.if-list-listed.false)) c.if-most-copied.true)) _ refl
+pub write-requires : goal.write-requires
+write-requires c =
+    let a = c.args in
+    let p = c.requires in
+    let b = block_lent a.block.now in
+    let q : AskedFor = wanted_lent a.wanted.now in
+    let first = ready_first b a.count q a.work.now p.asked p.whole _ c.marked-n.result c.marked-n.ensures in (
+      p.asked.kept.small,
+      c.measure-size.ensures.sized,
+      guest-room b a.count q a.work.now p.asked p.whole _ c.marked-n.result c.marked-n.ensures _ c.measure-size.ensures.kept
+          c.measure-size.result (c.measure-size.ensures.sieved b.place first) c.list_len-listed.result c.total-copied.result
+          c.list_len-listed.ensures c.total-copied.ensures a.list.now a.guest.now c.granted.result c.granted.ensures c.in_ok-granted.was,
+    )
 
 pub list_out-requires : goal.list_out-requires
-list_out-requires c = record { structure_len_bound = c.requires.asked.kept.small; count_le_node_ceiling = c.requires.asked.kept.few; n_le_node_ceiling = c.marked-n.ensures.short; work_words_in_bounds = omega (arith, (rest_is (block_of c.args.place c.args.structure.now c.args.strings.now) c.args.count (record { conf = c.args.conf.now; excl = c.args.excl.now; ids = c.args.ids.now }) c.args.work.now c.requires.asked c.requires.whole _ c.marked-n.result c.marked-n.ensures _ c.measure-size.ensures.kept).0, c.requires.asked.kept.room) }
+list_out-requires c =
+    let a = c.args in
+    let p = c.requires in
+    let q : AskedFor = wanted_lent a.wanted.now in
+    let rest = rest_is (block_lent a.block.now) a.count q a.work.now p.asked p.whole _ c.marked-n.result c.marked-n.ensures _ c.measure-size.ensures.kept in
+    record {
+      structure_len_bound = p.asked.kept.small;
+      count_le_node_ceiling = p.asked.kept.few;
+      n_le_node_ceiling = c.marked-n.ensures.short;
+      work_words_in_bounds = omega (arith, rest.0, p.asked.kept.room);
+    }
 
 pub shape_of-work : goal.shape_of-work
-shape_of-work c = (rest_is (block_of c.args.place c.args.structure.now c.args.strings.now) c.args.count (record { conf = c.args.conf.now; excl = c.args.excl.now; ids = c.args.ids.now }) c.args.work.now c.requires.asked c.requires.whole _ c.marked-n.result c.marked-n.ensures _ c.measure-size.ensures.kept).0
+shape_of-work c =
+    let a = c.args in
+    let p = c.requires in
+    let q : AskedFor = wanted_lent a.wanted.now in
+    (rest_is (block_lent a.block.now) a.count q a.work.now p.asked p.whole _ c.marked-n.result c.marked-n.ensures _ c.measure-size.ensures.kept).0
 
 pub returns : goal.returns
-returns c = writes-both (block_of c.args.place c.args.structure.now c.args.strings.now) c.args.count (record { conf = c.args.conf.now; excl = c.args.excl.now; ids = c.args.ids.now }) c.args.work.now c.requires.asked c.requires.whole _ c.marked-n.result c.marked-n.ensures _ c.measure-size.ensures.kept c.measure-size.result (c.measure-size.ensures.sieved c.args.place (ready_first (block_of c.args.place c.args.structure.now c.args.strings.now) c.args.count (record { conf = c.args.conf.now; excl = c.args.excl.now; ids = c.args.ids.now }) c.args.work.now c.requires.asked c.requires.whole _ c.marked-n.result c.marked-n.ensures)) c.list_len-listed.result c.total-copied.result (c.list_len-listed.ensures c.args.strings.now) c.total-copied.ensures c.args.list.now c.args.guest.now (omega (arith, c.if-list-listed.false)) c.room-most.result c.room-most.ensures (omega (arith, c.if-most-copied.false)) _ _ (c.list_out.ensures c.args.strings.now) (c.guest_out.ensures.written (both_granted (length c.args.list.now) c.list_len-listed.result c.room-most.result c.total-copied.result c.granted-both.result c.granted-both.ensures (omega (arith, c.if-list-listed.false)) (omega (arith, c.if-most-copied.false))) c.args.place (ready (block_of c.args.place c.args.structure.now c.args.strings.now) c.args.count (record { conf = c.args.conf.now; excl = c.args.excl.now; ids = c.args.ids.now }) c.args.work.now c.requires.asked c.requires.whole _ c.marked-n.result c.marked-n.ensures _ c.measure-size.ensures.kept.size c.measure-size.ensures.kept.before)) _ refl
+returns c =
+    let a = c.args in
+    let p = c.requires in
+    let b = block_lent a.block.now in
+    let q : AskedFor = wanted_lent a.wanted.now in
+    let first = ready_first b a.count q a.work.now p.asked p.whole _ c.marked-n.result c.marked-n.ensures in
+    let still = ready b a.count q a.work.now p.asked p.whole _ c.marked-n.result c.marked-n.ensures _ c.measure-size.ensures.kept.size c.measure-size.ensures.kept.before in
+    writes-both b a.count q a.work.now p.asked p.whole _ c.marked-n.result c.marked-n.ensures _ c.measure-size.ensures.kept
+    c.measure-size.result (c.measure-size.ensures.sieved b.place first) c.list_len-listed.result c.total-copied.result
+    c.list_len-listed.ensures c.total-copied.ensures a.list.now a.guest.now c.granted.result c.granted.ensures c.in_ok-granted.was
+    _ _ c.list_out.ensures (c.write.ensures b.place still)

@@ -8,7 +8,7 @@ use Rattle.doubled.proofs.props.build.Given as goal
 
 abbrev pub invariant-loop-n : goal.invariant-loop-n
 invariant-loop-n l =
-    (l.n ≤ chunk_room) × (l.n ≤ l.left) × (l.here ≤ length l.structure) × (length l.work ≡ length l.initial.work) × Framed l.initial.work (taken l.left) l.work × Filled l.structure l.strings l.from l.left l.n l.here l.work
+    (l.n ≤ chunk_room) × (l.n ≤ l.left) × (l.here ≤ length l.block.structure.now) × (length l.work ≡ length l.initial.work) × Framed l.initial.work (taken l.left) l.work × Filled l.block.structure.now l.block.strings.now l.from l.left l.n l.here l.work
 
 abbrev pub decreases-loop-n : goal.decreases-loop-n
 decreases-loop-n l = chunk_room - l.n

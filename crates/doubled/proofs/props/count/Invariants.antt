@@ -6,8 +6,8 @@ use Rattle.rules.specs.Octets.{Bytes}
 use Rattle.doubled.specs.Passes.{props_at}
 use Rattle.doubled.proofs.props.count.Given as goal
 
-abbrev pub invariant-loop-next : goal.invariant-loop-next
-invariant-loop-next l = (l.at ≤ length l.structure) × (l.n ≤ l.at) × ((strings : Bytes) (p : ℕ) → l.n + length (props_at l.structure strings p l.at) ≡ length (props_at l.structure strings p l.from))
+abbrev pub invariant-loop-property : goal.invariant-loop-property
+invariant-loop-property l = (l.at ≤ length l.structure) × (l.n ≤ l.at) × ((strings : Bytes) (p : ℕ) → l.n + length (props_at l.structure strings p l.at) ≡ length (props_at l.structure strings p l.from))
 
-abbrev pub decreases-loop-next : goal.decreases-loop-next
-decreases-loop-next l = length l.structure - l.at
+abbrev pub decreases-loop-property : goal.decreases-loop-property
+decreases-loop-property l = length l.structure - l.at

@@ -10,8 +10,8 @@ use Rattle.guest.proofs.names.earlier.Given as goal
 
 abbrev pub invariant-loop-left : goal.invariant-loop-left
 invariant-loop-left l =
-    (l.at ≤ length l.structure) × Behind l.walk l.at
-    × (is_in l.name (take l.left (names_from (marked l.work) (block_of 0 l.structure l.strings) l.at l.walk)) ≡ is_in l.name (take l.props (names_in l.structure l.strings l.work)))
+    (l.at ≤ length l.block.structure.now) × Behind l.walk l.at
+    × (is_in l.name (take l.left (names_from (marked l.work) (block_of 0 l.block.structure.now l.block.strings.now) l.at l.walk)) ≡ is_in l.name (take l.props (names_in l.block.structure.now l.block.strings.now l.work)))
 
 abbrev pub decreases-loop-left : goal.decreases-loop-left
-decreases-loop-left l = length l.structure - l.at
+decreases-loop-left l = length l.block.structure.now - l.at

@@ -1,20 +1,12 @@
-use mathlib.Core.List.{[]}
 use mathlib.Core.Path.{ap, ◌∙◌}
 use Prim.Native.Nat.{ℕ, ◌+◌}
 use native.Mathlib.Omega.{arith}
 use lib.ListN.{get_or}
-use Rattle.rules.specs.Blob.{Block}
+use Rattle.rules.specs.Laws.Lent.{block_lent}
 use Rattle.rules.proofs.Laws.Kept.{node_word}
 use Rattle.rules.proofs.Laws.Constants.{stack_at_lem}
-use Rattle.listing.specs.Given.{below_in}
-use Rattle.listing.proofs.Gained.{gains_refl, start_below, below_turn, below_all}
+use Rattle.listing.proofs.Gained.{start_below, below_turn, below_all}
 use Rattle.listing.proofs.given.list_below.Goals as goal
-
-nil : Block
-nil = record { place = 0; structure = []; strings = [] }
-
-pub loop-k-init : goal.loop-k-init
-loop-k-init c = λ b. gains_refl c.args.count c.args.work.now c.args.listed (below_in b c.args.work.now c.args.count c.args.starts c.args.p) c.requires.marked
 
 pub overflow_add-k : goal.overflow_add-k
 overflow_add-k c = omega (arith, node_word)
@@ -24,23 +16,20 @@ list_if_below-n-requires c =
     let a = c.args in
     let p = c.requires in
     record {
-      x_lt_count = start_below a.count a.work.now a.listed a.starts a.p p.starts_le_node_ceiling p.by_index c.loop-k.work c.loop-k.n c.loop-k.k p.marked.room ((c.loop-k.invariant nil).stack a.starts) c.loop-k-test.true
+      x_lt_count = start_below a.count a.work.now a.listed a.starts a.p p.starts_le_node_ceiling p.by_index c.loop-k.work c.loop-k.n c.loop-k.k p.marked.room (c.loop-k.invariant.stack a.starts) c.loop-k-test.true
           c.word_of-x.result (c.word_of-x.ensures ∙ ap (λ (j : ℕ). get_or c.loop-k.work (j + c.loop-k.k) 0) stack_at_lem);
-      marked = (c.loop-k.invariant nil).marked;
+      marked = c.loop-k.invariant.marked;
     }
 
 pub loop-k-preserved : goal.loop-k-preserved
 loop-k-preserved c =
     let a = c.args in
     let p = c.requires in
-    λ b. below_turn a.count a.work.now a.listed a.starts a.p p.starts_le_node_ceiling p.by_index c.loop-k.work c.loop-k.n c.loop-k.k b (c.loop-k.invariant b) p.marked.room c.loop-k-test.true
-    c.word_of-x.result (c.word_of-x.ensures ∙ ap (λ (j : ℕ). get_or c.loop-k.work (j + c.loop-k.k) 0) stack_at_lem) c.list_if_below-n.new.work c.list_if_below-n.result (c.list_if_below-n.ensures b)
-
-pub shape_of-work : goal.shape_of-work
-shape_of-work c = (c.loop-k.invariant nil).apart.size
+    below_turn a.count a.work.now a.listed a.starts a.p p.starts_le_node_ceiling p.by_index c.loop-k.work c.loop-k.n c.loop-k.k (block_lent a.block.now) c.loop-k.invariant p.marked.room c.loop-k-test.true
+    c.word_of-x.result (c.word_of-x.ensures ∙ ap (λ (j : ℕ). get_or c.loop-k.work (j + c.loop-k.k) 0) stack_at_lem) c.list_if_below-n.new.work c.list_if_below-n.result c.list_if_below-n.ensures
 
 pub returns : goal.returns
 returns c =
     let a = c.args in
     let p = c.requires in
-    λ b. below_all a.count a.work.now a.listed a.starts a.p p.starts_le_node_ceiling p.by_index c.loop-k.work c.loop-k.n c.loop-k.k b (c.loop-k.invariant b) p.marked.room c.loop-k-test.false
+    below_all a.count a.work.now a.listed a.starts a.p p.starts_le_node_ceiling p.by_index c.loop-k.work c.loop-k.n c.loop-k.k (block_lent a.block.now) c.loop-k.invariant p.marked.room c.loop-k-test.false

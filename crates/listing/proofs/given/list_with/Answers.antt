@@ -1,13 +1,8 @@
 -- `list_with` meets its contract: the node, and then those below it.
-use native.Mathlib.Omega.{arith}
+use Rattle.rules.specs.Laws.Lent.{block_lent}
 use Rattle.listing.specs.Given.{below_in}
 use Rattle.listing.proofs.Gained.{gains_with, below_alike}
 use Rattle.listing.proofs.given.list_with.Goals as goal
-
-pub list-n-requires : goal.list-n-requires
-list-n-requires c =
-    let p = c.requires in
-    (omega (arith, p.p_lt_count.0, p.marked.few), omega (arith, p.marked.short, p.marked.few))
 
 pub list_below-requires : goal.list_below-requires
 list_below-requires c =
@@ -21,5 +16,5 @@ returns c =
     let a = c.args in
     let p = c.requires in
     let g = c.list-n.ensures a.count p.p_lt_count.0 p.marked in
-    λ b. gains_with a.count a.work.now a.listed a.p c.list-n.new.work c.list-n.result (below_in b a.work.now a.count a.starts a.p) c.list_below.new.work c.list_below.result g
-    (rw (below_alike b a.work.now c.list-n.new.work a.count a.starts a.p p.marked.few g.apart (g.stack a.starts)) at (c.list_below.ensures b))
+    gains_with a.count a.work.now a.listed a.p c.list-n.new.work c.list-n.result (below_in (block_lent a.block.now) a.work.now a.count a.starts a.p) c.list_below.new.work c.list_below.result g
+    (rw (below_alike (block_lent a.block.now) a.work.now c.list-n.new.work a.count a.starts a.p p.marked.few g.apart (g.stack a.starts)) at c.list_below.ensures)

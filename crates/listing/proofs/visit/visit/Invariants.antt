@@ -2,16 +2,16 @@
 -- properties from here on tell.
 use Prim.Native.Nat.{◌-◌, ◌≤◌}
 use lib.ListN.{length}
-use Rattle.rules.specs.Blob.{block_of}
+use Rattle.rules.specs.Laws.Lent.{block_lent}
 use Rattle.listing.specs.State.{Stacks}
 use Rattle.listing.proofs.Visits.{targets_of, targets_behind}
 use Rattle.listing.proofs.visit.visit.Given as goal
 
-abbrev pub invariant-loop-len : goal.invariant-loop-len
-invariant-loop-len l =
-    (l.at ≤ length l.structure)
-    × Stacks l.count l.initial.work l.initial.e.list l.initial.e.stack (targets_of (block_of l.place l.structure l.strings) l.initial.work l.count l.x)
-    l.work l.e.list l.e.stack (targets_behind (block_of l.place l.structure l.strings) l.initial.work l.count l.at)
+abbrev pub invariant-loop-p : goal.invariant-loop-p
+invariant-loop-p l =
+    (l.at ≤ length l.block.structure.now)
+    × Stacks l.count l.initial.work l.initial.ends.list l.initial.ends.stack (targets_of (block_lent l.block) l.initial.work l.count l.x)
+    l.work l.ends.list l.ends.stack (targets_behind (block_lent l.block) l.initial.work l.count l.at)
 
-abbrev pub decreases-loop-len : goal.decreases-loop-len
-decreases-loop-len l = length l.structure - l.at
+abbrev pub decreases-loop-p : goal.decreases-loop-p
+decreases-loop-p l = length l.block.structure.now - l.at

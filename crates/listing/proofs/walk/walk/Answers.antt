@@ -1,54 +1,50 @@
-use mathlib.Core.Path.{◌≡◌, refl, ap, ◌∙◌}
+use mathlib.Core.Path.{◌≡◌, ap, ◌∙◌}
 use Prim.Native.Nat.{ℕ, ◌+◌, ◌-◌}
 use native.Mathlib.Omega.{arith}
 use lib.ListN.{get_or}
-use Rattle.rules.proofs.Laws.Kept.{node_word, only_none, only_kept}
-use Rattle.listing.proofs.Walks.{top_small, popped, walk_turn, walk_apart, walk_less, walked}
-use Rattle.rules.specs.Blob.{block_of}
+use Rattle.rules.specs.Space.{stack_at}
+use Rattle.rules.specs.Laws.Lent.{block_lent}
+use Rattle.rules.proofs.Laws.Kept.{node_word, only_kept}
 use Rattle.rules.proofs.Laws.Constants.{stack_at_lem}
+use Rattle.listing.proofs.Walks.{top_small, popped, walk_turn, walk_apart, walked}
 use Rattle.listing.proofs.walk.walk.Goals as goal
+use Rattle.listing.proofs.walk.walk.Goals.{After-word_of-x}
 
-pub loop-s-init : goal.loop-s-init
-loop-s-init c = (only_none c.args.work.now, c.requires.piled, refl)
+-- the node that is taken
+taken : (c : After-word_of-x) → c.word_of-x.result ≡ get_or c.loop-ends.work (stack_at + (c.loop-ends.ends.stack - 1)) 0
+taken c = c.word_of-x.ensures ∙ ap (λ (k : ℕ). get_or c.loop-ends.work (k + (c.loop-ends.ends.stack - 1)) 0) stack_at_lem
 
-pub overflow_add-top : goal.overflow_add-top
-overflow_add-top c =
-    let p = c.loop-s.invariant.1 in
+pub overflow_add-ends : goal.overflow_add-ends
+overflow_add-ends c =
+    let p = c.loop-ends.invariant.1 in
     omega (arith, node_word, p.least, p.marked.short, p.marked.few)
 
-pub visit-e-requires : goal.visit-e-requires
-visit-e-requires c =
+pub visit-requires : goal.visit-requires
+visit-requires c =
     let a = c.args in
-    let p = c.loop-s.invariant.1 in
+    let e = c.loop-ends.ends in
+    let p = c.loop-ends.invariant.1 in
     record {
-      kept = only_kept (block_of a.place a.structure.now a.strings.now) a.count (omega arith) c.loop-s.invariant.0 c.requires.kept;
-      piled = popped c.loop-s.work a.count c.loop-s.n c.loop-s.s p c.loop-s-test.true;
-      x_lt_count = (let e : c.word_of-x.result ≡ get_or c.loop-s.work _ 0 = c.word_of-x.ensures ∙ ap (λ (k : ℕ). get_or c.loop-s.work (k + (c.loop-s.s - 1)) 0) stack_at_lem in
-          omega (arith, e, top_small c.loop-s.work a.count c.loop-s.n c.loop-s.s p c.loop-s-test.true));
+      kept = only_kept (block_lent a.block.now) a.count (omega arith) c.loop-ends.invariant.0 c.requires.kept;
+      piled = popped c.loop-ends.work a.count e.list e.stack p c.loop-ends-test.true;
+      x_lt_count = omega (arith, taken (goal.at.visit-requires c).After-word_of-x, top_small c.loop-ends.work a.count e.list e.stack p c.loop-ends-test.true);
     }
 
-pub loop-s-smaller : goal.loop-s-smaller
-loop-s-smaller c =
+pub loop-ends-preserved : goal.loop-ends-preserved
+loop-ends-preserved c =
     let a = c.args in
-    let e = c.word_of-x.ensures ∙ ap (λ (k : ℕ). get_or c.loop-s.work (k + (c.loop-s.s - 1)) 0) stack_at_lem in
-    walk_less c.loop-s.work a.count c.loop-s.n c.loop-s.s c.loop-s.invariant.1 c.loop-s-test.true (block_of a.place a.structure.now a.strings.now) a.work.now c.loop-s.invariant.0
-    c.word_of-x.result e c.visit-e.new.work c.visit-e.result.list c.visit-e.result.stack c.visit-e.ensures
-
-pub loop-s-preserved : goal.loop-s-preserved
-loop-s-preserved c =
-    let a = c.args in
-    let e = c.word_of-x.ensures ∙ ap (λ (k : ℕ). get_or c.loop-s.work (k + (c.loop-s.s - 1)) 0) stack_at_lem in (
-      walk_apart c.loop-s.work a.count c.loop-s.n c.loop-s.s c.loop-s.invariant.1 c.loop-s-test.true (block_of a.place a.structure.now a.strings.now) a.work.now c.loop-s.invariant.0
-          c.word_of-x.result e c.visit-e.new.work c.visit-e.result.list c.visit-e.result.stack c.visit-e.ensures,
-      c.visit-e.ensures.piled,
-      walk_turn c.loop-s.work a.count c.loop-s.n c.loop-s.s c.loop-s.invariant.1 c.loop-s-test.true (block_of a.place a.structure.now a.strings.now) a.work.now c.loop-s.invariant.0
-          c.word_of-x.result e c.visit-e.new.work c.visit-e.result.list c.visit-e.result.stack c.visit-e.ensures ∙ c.loop-s.invariant.2,
+    let e = c.loop-ends.ends in
+    let d = c.visit.new.ends in
+    let t = taken (goal.at.loop-ends-preserved c).After-word_of-x in (
+      walk_apart c.loop-ends.work a.count e.list e.stack c.loop-ends.invariant.1 c.loop-ends-test.true (block_lent a.block.now) a.work.now c.loop-ends.invariant.0
+          c.word_of-x.result t c.visit.new.work d.list d.stack c.visit.ensures,
+      c.visit.ensures.piled,
+      walk_turn c.loop-ends.work a.count e.list e.stack c.loop-ends.invariant.1 c.loop-ends-test.true (block_lent a.block.now) a.work.now c.loop-ends.invariant.0
+          c.word_of-x.result t c.visit.new.work d.list d.stack c.visit.ensures ∙ c.loop-ends.invariant.2,
     )
-
-pub shape_of-work : goal.shape_of-work
-shape_of-work c = c.loop-s.invariant.0.size
 
 pub returns : goal.returns
 returns c =
     let a = c.args in
-    walked (block_of a.place a.structure.now a.strings.now) a.work.now a.count a.listed a.starts c.loop-s.work c.loop-s.n c.loop-s.s c.loop-s.invariant.0 c.loop-s.invariant.1 c.loop-s-test.false c.loop-s.invariant.2
+    let e = c.loop-ends.ends in
+    walked (block_lent a.block.now) a.work.now a.count a.ends.list a.ends.stack c.loop-ends.work e.list e.stack c.loop-ends.invariant.0 c.loop-ends.invariant.1 c.loop-ends-test.false c.loop-ends.invariant.2

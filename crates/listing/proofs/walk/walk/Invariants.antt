@@ -3,14 +3,14 @@ use mathlib.Core.Path.{◌≡◌}
 use Prim.Native.Nat.{◌+◌, ◌-◌}
 use Rattle.listing.specs.State.{Apart, Piled}
 use Rattle.listing.specs.Walk.{work_from}
-use Rattle.rules.specs.Blob.{block_of}
+use Rattle.rules.specs.Laws.Lent.{block_lent}
 use Rattle.listing.proofs.walk.walk.Given as goal
 
-abbrev pub invariant-loop-s : goal.invariant-loop-s
-invariant-loop-s l =
+abbrev pub invariant-loop-ends : goal.invariant-loop-ends
+invariant-loop-ends l =
     Apart l.initial.work l.work
-    × Piled l.work l.count l.n l.s
-    × (work_from (block_of l.place l.structure l.strings) l.initial.work l.work l.count l.n l.s ≡ work_from (block_of l.place l.structure l.strings) l.initial.work l.initial.work l.count l.listed l.starts)
+    × Piled l.work l.count l.ends.list l.ends.stack
+    × (work_from (block_lent l.block) l.initial.work l.work l.count l.ends.list l.ends.stack ≡ work_from (block_lent l.block) l.initial.work l.initial.work l.count l.initial.ends.list l.initial.ends.stack)
 
-abbrev pub decreases-loop-s : goal.decreases-loop-s
-decreases-loop-s l = l.count + l.s - l.n
+abbrev pub decreases-loop-ends : goal.decreases-loop-ends
+decreases-loop-ends l = l.count + l.ends.stack - l.ends.list

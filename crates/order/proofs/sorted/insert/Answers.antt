@@ -1,36 +1,36 @@
-use mathlib.Core.Path.{refl, ap, ◌∙◌}
-use mathlib.Core.List.{[], ◌∷◌}
+-- `insert` meets its contract: those from its place on are copied one further, and it is put in front of them.
+use mathlib.Core.Path.{◌∙◌, ap}
+use mathlib.Core.List.{List}
 use Prim.Native.Nat.{ℕ, ◌+◌}
 use native.Mathlib.Omega.{arith}
-use Rattle.rules.specs.Octets.{lay}
-use Rattle.rules.specs.Space.{stack_at}
-use Rattle.order.proofs.Regions.{moved_start, moved_more, moved_done}
+use lib.ListN.{set}
+use Rattle.rules.specs.Laws.Constants.{STACK_AT}
+use Rattle.rules.proofs.Laws.Constants.{stack_at_lem}
+use Rattle.order.proofs.Regions.{copied, room}
 use Rattle.order.proofs.sorted.insert.Goals as goal
 
-pub loop-i-init : goal.loop-i-init
-loop-i-init c = (omega (arith, c.requires.0), omega arith, refl, moved_start c.args.work.now c.args.n)
+pub overflow_add-place : goal.overflow_add-place
+overflow_add-place c = omega (arith, room, stack_at_lem, c.requires)
 
-pub nth_node-y-requires : goal.nth_node-y-requires
-nth_node-y-requires c = omega (arith, c.requires.1)
+pub overflow_add-n : goal.overflow_add-n
+overflow_add-n c = omega (arith, room, stack_at_lem, c.requires)
 
-pub put_node-requires : goal.put_node-requires
-put_node-requires c = omega (arith, c.requires.1)
+pub overflow_add-place-2 : goal.overflow_add-place-2
+overflow_add-place-2 c = omega (arith, room, stack_at_lem, c.requires)
 
-pub loop-i-preserved : goal.loop-i-preserved
-loop-i-preserved c = (
-  omega arith,
-  omega arith,
-  c.put_node.auto.work ∙ c.loop-i.invariant.2,
-  c.put_node.ensures
-      ∙ ap (λ (y : ℕ). lay c.loop-i.work (stack_at + c.loop-i.i) (y ∷ [])) c.nth_node-y.ensures
-      ∙ moved_more c.args.work.now c.args.n c.loop-i.i c.loop-i.work c.loop-i.invariant.3 (omega arith) (omega arith),
-)
+pub copy_within-requires-clause-in_bounds : goal.copy_within-requires-clause-in_bounds
+copy_within-requires-clause-in_bounds c = omega (arith, room, stack_at_lem, c.requires)
 
-pub put_node-requires-2 : goal.put_node-requires-2
-put_node-requires-2 c = omega (arith, c.requires.0, c.requires.1)
+pub copy_within-requires-clause-dest_in_bounds : goal.copy_within-requires-clause-dest_in_bounds
+copy_within-requires-clause-dest_in_bounds c = omega (arith, room, stack_at_lem, c.requires)
 
-pub shape_of-work : goal.shape_of-work
-shape_of-work c = c.put_node-2.auto.work ∙ c.loop-i.invariant.2
+pub offset_bounds-work-place : goal.offset_bounds-work-place
+offset_bounds-work-place c = omega (arith, room, stack_at_lem, c.requires)
+
+pub bounds-work-place : goal.bounds-work-place
+bounds-work-place c = omega (arith, room, stack_at_lem, c.requires, c.copy_within.ensures.len)
 
 pub returns : goal.returns
-returns c = c.put_node-2.ensures ∙ moved_done c.args.work.now c.args.n c.loop-i.i c.loop-i.work c.loop-i.invariant.3 c.args.at c.args.x (omega arith)
+returns c =
+    ap (λ (vs : List ℕ). set vs (STACK_AT + c.args.at) c.args.x) c.copy_within.ensures.after
+    ∙ copied c.args.work.now c.args.n c.args.at c.args.x (STACK_AT + c.args.at) (omega (arith, stack_at_lem)) c.requires.0 (omega (arith, room, c.requires)) (STACK_AT + c.args.n) (omega (arith, stack_at_lem))

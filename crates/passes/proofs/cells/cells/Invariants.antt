@@ -11,7 +11,7 @@ use Rattle.passes.proofs.cells.cells.Given as goal
 
 abbrev pub invariant-loop-kind : goal.invariant-loop-kind
 invariant-loop-kind l =
-    (l.at ≤ length l.structure) × ((p : ℕ) → words_rest l.seen (events_at (block_of p l.structure l.strings) l.at) ≡ words_judged (nodes_in l.structure l.strings p))
+    (l.at ≤ length l.block.structure.now) × ((p : ℕ) → words_rest l.seen (events_at (block_of p l.block.structure.now l.block.strings.now) l.at) ≡ words_judged (nodes_in l.block.structure.now l.block.strings.now p))
 
 abbrev pub decreases-loop-kind : goal.decreases-loop-kind
-decreases-loop-kind l = length l.structure - l.at
+decreases-loop-kind l = length l.block.structure.now - l.at

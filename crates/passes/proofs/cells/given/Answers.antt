@@ -9,14 +9,14 @@ pub returns-then-value-ne4 : goal.returns-then-value-ne4
 unfolding on_given
 returns-then-value-ne4 c = simp (ne_eqb _ _ c.if-value-ne4.true)
 
+pub returns-in-Given : goal.returns-in-Given
+unfolding on_given
+returns-in-Given c = simp (eq-eqb _ _ c.if-value-ne4.false, ← c.word-v.ensures, other c.args.seen c.in-Given.known c.word-v.result c.in-Given.is c.if-known-v.true)
+
 pub returns-in_default : goal.returns-in_default
 unfolding on_given
-returns-in_default c = simp (eq-eqb _ _ c.if-value-ne4.false, ← c.word-v.ensures, unknown c.args.seen c.word-v.result (opened c.in_default.in_default-own.keys2))
+returns-in_default c = simp (eq-eqb _ _ c.if-value-ne4.false, ← c.word-v.ensures, again c.args.seen c.in-Given.known c.word-v.result c.in-Given.is c.if-known-v.false)
 
-pub returns-then-u-v : goal.returns-then-u-v
+pub returns-in_default-2 : goal.returns-in_default-2
 unfolding on_given
-returns-then-u-v c = simp (eq-eqb _ _ c.if-value-ne4.false, ← c.word-v.ensures, other c.args.seen c.in-Given.u c.word-v.result c.in-Given.is c.if-u-v.true)
-
-pub returns : goal.returns
-unfolding on_given
-returns c = simp (eq-eqb _ _ c.if-value-ne4.false, ← c.word-v.ensures, again c.args.seen c.in-Given.u c.word-v.result c.in-Given.is c.if-u-v.false)
+returns-in_default-2 c = simp (eq-eqb _ _ c.if-value-ne4.false, ← c.word-v.ensures, unknown c.args.seen c.word-v.result (opened c.in_default.in_default-own.keys2))

@@ -4,7 +4,7 @@ use mathlib.Core.Bool.{false}
 use mathlib.Core.List.{List}
 use Prim.Native.Nat.{ℕ}
 use native.Mathlib.Numerals.{add-one}
-use Rattle.passes.specs.declared.shared.Row.TheVariants.{Go}
+use Rattle.std.specs.Prelude.{Some}
 use Rattle.passes.specs.Rows.{row_give}
 use Rattle.passes.proofs.shared.give.Goals as goal
 
@@ -16,4 +16,4 @@ pub returns : goal.returns
 unfolding row_give
 returns c =
     rw (sym c.row_below.ensures ∙ c.if-row_below.false, row_give)
-    (ap₂ (λ (n : ℕ) (l : List ℕ). (Go n false, l)) (add-one c.args.i) c.put_row.ensures)
+    (ap₂ (λ (n : ℕ) (l : List ℕ). (Some (record { number = n; wants = false }), l)) (add-one c.args.i) c.put_row.ensures)

@@ -1,6 +1,4 @@
 -- `put_row` meets its contract.
-use lib.ListN.{length-set}
-use native.Mathlib.Omega.{arith}
 use borrow.Author.Tests.{le-ltb, lt-ltb}
 use Rattle.rules.specs.Ceilings.{node_words}
 use Rattle.passes.specs.Rows.{row_given}
@@ -9,12 +7,6 @@ use Rattle.passes.proofs.shared.put_row.Goals as goal
 pub returns-then-work-i : goal.returns-then-work-i
 unfolding row_given node_words
 returns-then-work-i c = simp (le-ltb _ _ c.if-work-i.true)
-
-pub bounds-work-at-2 : goal.bounds-work-at-2
-bounds-work-at-2 c = simp length-set (omega arith)
-
-pub shape_of-work : goal.shape_of-work
-shape_of-work c = simp length-set
 
 pub returns : goal.returns
 unfolding row_given node_words

@@ -1,17 +1,17 @@
-use mathlib.Core.Path.{sym, ◌∙◌}
-use native.Mathlib.Omega.{arith}
-use Rattle.rules.specs.Blob.{block_of}
-use Rattle.paths.proofs.Climbs.{among_all, among_end, among_here, among_past}
+-- `node_at` meets its contract.
+use Rattle.std.proofs.Common.{◌≡◌, true, false, rules}
+use Rattle.std.proofs.lemmas.Iterator.{first_from_Range}
+use borrow.Author.Tests.{tests}
+use Rattle.rules.specs.Laws.Lent.{block_lent}
+use Rattle.paths.proofs.Climbs.{fits, first_fits}
 use Rattle.paths.proofs.lookup.node_at.Goals as goal
 
-pub loop-i-init : goal.loop-i-init
-loop-i-init c = (omega arith, λ strings. among_all (block_of c.args.place c.args.structure.now strings) c.args.work.now c.args.count c.args.p.now)
-
-pub returns-then-has_path : goal.returns-then-has_path
-returns-then-has_path c = λ strings. sym (c.loop-i.invariant.1 strings ∙ among_here (block_of c.args.place c.args.structure.now strings) c.args.work.now c.args.count c.args.p.now c.loop-i.i c.loop-i-test.true (sym (c.has_path.ensures strings) ∙ c.if-has_path.true))
-
-pub loop-i-preserved : goal.loop-i-preserved
-loop-i-preserved c = (omega arith, λ strings. c.loop-i.invariant.1 strings ∙ among_past (block_of c.args.place c.args.structure.now strings) c.args.work.now c.args.count c.args.p.now c.loop-i.i c.loop-i-test.true (sym (c.has_path.ensures strings) ∙ c.if-has_path.false))
-
 pub returns : goal.returns
-returns c = λ strings. sym (c.loop-i.invariant.1 strings ∙ among_end (block_of c.args.place c.args.structure.now strings) c.args.work.now c.args.count c.args.p.now c.loop-i.i c.loop-i-test.false)
+returns c =
+    let t = c.args.tree.now in
+    let b = block_lent t.block in
+    let p = c.args.p.now in
+    first_fits b t.work.now t.count p c.find.result
+    (first_from_Range _ _ _ c.find.result (λ i. fits b t.work.now t.count p i ≡ true) (λ i. fits b t.work.now t.count p i ≡ false) c.find.ensures.ran
+    (λ x q k. search (rules, tests))
+    (λ x q k. search (rules, tests)))

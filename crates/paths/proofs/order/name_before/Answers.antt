@@ -1,22 +1,20 @@
-use mathlib.Core.Path.{refl, sym, ◌∙◌}
-use native.Mathlib.Omega.{arith}
-use Rattle.paths.proofs.Names.{name_ended, name_slash, name-differ, name-more, name_rest}
+-- `name_before` meets its contract.
+use mathlib.Core.Path.{◌≡◌, refl, ◌∙◌}
+use mathlib.Core.List.{◌++◌}
+use Rattle.std.specs.Ordering.{nat_cmp}
+use Rattle.std.proofs.lemmas.Iterator.{YieldsList-from_slice}
+use Rattle.std.proofs.lemmas.Iterator.Consumers.{YieldsList-from_chain}
+use Rattle.std.proofs.lemmas.Iterator.Search.{cmp_from_yields_List}
+use Rattle.paths.specs.Order.{slash}
+use Rattle.paths.proofs.Names.{less_before}
 use Rattle.paths.proofs.order.name_before.Goals as goal
 
-pub loop-k-init : goal.loop-k-init
-loop-k-init c = (omega arith, refl)
-
-pub returns-then-other : goal.returns-then-other
-returns-then-other c = sym (c.loop-k.invariant.1 ∙ name_slash c.args.n.now c.args.o.now c.args.more c.args.other c.loop-k.k c.loop-k-test.true c.if-o-k.true c.if-other.true)
-
-pub returns-then-o-k : goal.returns-then-o-k
-returns-then-o-k c = sym (c.loop-k.invariant.1 ∙ name_ended c.args.n.now c.args.o.now c.args.more c.args.other c.loop-k.k c.loop-k-test.true c.if-o-k.true c.if-other.false)
-
-pub returns-then-n-k : goal.returns-then-n-k
-returns-then-n-k c = sym (c.loop-k.invariant.1 ∙ name-differ c.args.n.now c.args.o.now c.args.more c.args.other c.loop-k.k c.loop-k-test.true c.if-o-k.false c.if-n-k.true)
-
-pub loop-k-preserved : goal.loop-k-preserved
-loop-k-preserved c = (omega arith, c.loop-k.invariant.1 ∙ name-more c.args.n.now c.args.o.now c.args.more c.args.other c.loop-k.k c.loop-k-test.true c.if-o-k.false c.if-n-k.false)
-
 pub returns : goal.returns
-returns c = c.rest_before.ensures ∙ sym (c.loop-k.invariant.1 ∙ name_rest c.args.n.now c.args.o.now c.args.more c.args.other c.loop-k.k c.loop-k-test.false)
+returns c =
+    let a = c.args in
+    c.is_lt.ensures
+    ∙ less_before (a.n.now ++ slash a.more) (a.o.now ++ slash a.other) c.cmp.result
+    (cmp_from_yields_List (λ x y. y ≡ x) _ nat_cmp _ c.cmp.ensures.ran
+    (YieldsList-from_chain (YieldsList-from_slice a.n.now cc) (YieldsList-from_slice (slash a.more) cc) (cc) (cc))
+    (λ it e. YieldsList-from_chain (YieldsList-from_slice a.o.now cc) (YieldsList-from_slice (slash a.other) cc) (cc) (cc))
+    (λ x y. refl))

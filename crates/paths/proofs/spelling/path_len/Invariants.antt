@@ -2,16 +2,10 @@
 use mathlib.Core.Path.{◌≡◌}
 use Prim.Native.Nat.{◌+◌, ◌-◌, ◌*◌, ◌≤◌}
 use lib.ListN.{length}
-use Rattle.rules.specs.Octets.{Bytes}
 use Rattle.rules.specs.Tree.{path, spell}
-use Rattle.rules.specs.Laws.Tabled.{tree_of}
+use Rattle.rules.specs.Laws.Lent.{tree_lent}
 use Rattle.paths.proofs.spelling.path_len.Given as goal
 
-abbrev pub invariant-loop-left : goal.invariant-loop-left
-invariant-loop-left l =
-    (l.left ≤ l.i)
-    × (l.len ≤ (l.i - l.left) * 1048577)
-    × ((strings : Bytes) → l.len + length (spell (tree_of l.place l.structure strings l.work l.count) l.left l.at) ≡ length (path (tree_of l.place l.structure strings l.work l.count) l.i))
-
-abbrev pub decreases-loop-left : goal.decreases-loop-left
-decreases-loop-left l = l.left
+abbrev pub invariant-loop : goal.invariant-loop
+invariant-loop l =
+    (l.len ≤ l.counter * 1048577) × (l.len + length (spell (tree_lent l.tree) (l.i - l.counter) l.at) ≡ length (path (tree_lent l.tree) l.i))

@@ -1,14 +1,8 @@
 -- `spell` meets its contract. The invariant: from `end` on the rest of the path stands in the buffer.
-use mathlib.Core.Path.{◌≡◌}
-use lib.ListN.{length}
-use Rattle.rules.specs.Octets.{Bytes}
-use Rattle.rules.specs.Laws.Tabled.{tree_of}
+use Prim.Native.Nat.{◌-◌}
+use Rattle.rules.specs.Laws.Lent.{tree_lent}
 use Rattle.paths.proofs.Spellings.{Laid}
 use Rattle.paths.proofs.spelling.spell.Given as goal
 
-abbrev pub invariant-loop-left : goal.invariant-loop-left
-invariant-loop-left l =
-    (length l.out ≡ length l.initial.out) × ((strings : Bytes) → Laid (tree_of l.place l.structure strings l.work l.count) l.i l.left l.node l.end l.at l.initial.out l.out)
-
-abbrev pub decreases-loop-left : goal.decreases-loop-left
-decreases-loop-left l = l.left
+abbrev pub invariant-loop : goal.invariant-loop
+invariant-loop l = Laid (tree_lent l.tree) l.i (l.i - l.counter) l.node l.end l.at l.initial.out l.out

@@ -1,27 +1,8 @@
--- `is_cells` meets its contract: what does not begin with `#` is no cells property.
-use mathlib.Core.Path.{◌≡◌, refl, sym, ◌∙◌}
-use mathlib.Core.Bool.{true}
-use Rattle.rules.specs.Octets.{ascii, begins}
-use Rattle.rules.specs.References.{cell_rows}
-use Rattle.references.specs.Rows.{asked, meaning}
-use Rattle.references.proofs.Names.{marked, unmarked}
+-- `is_cells` meets its contract.
+use mathlib.Core.Path.{ap, ◌∙◌}
+use Rattle.rules.specs.Octets.{Bytes, same}
+use Rattle.references.proofs.Names.{equal_same}
 use Rattle.references.proofs.rows.is_cells.Goals as goal
 
--- each of them does
-hash : marked (ascii "#") (asked cell_rows) ≡ true
-unfolding ascii begins cell_rows
-hash = refl
-
-pub begins-requires : goal.begins-requires
-begins-requires c = tt
-
-pub returns-then-not-begins : goal.returns-then-not-begins
-unfolding meaning ascii
-returns-then-not-begins c = unmarked (ascii "#") c.args.name.now (asked cell_rows) hash (sym c.begins.ensures ∙ c.if-not-begins.true) c.args.c.row
-
-pub is_asked-requires : goal.is_asked-requires
-is_asked-requires c = tt
-
-pub returns : goal.returns
-unfolding meaning
-returns c = c.is_asked.ensures
+pub returns-in-Some : goal.returns-in-Some
+returns-in-Some c = rw c.in-Some.is (c.eq.ensures ∙ equal_same c.name.result.now c.args.name.now ∙ ap (λ (x : Bytes). same x c.args.name.now) c.name.ensures)

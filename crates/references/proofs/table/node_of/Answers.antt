@@ -1,20 +1,15 @@
-use mathlib.Core.Path.{sym, ◌∙◌}
-use native.Mathlib.Omega.{arith}
-use Rattle.rules.proofs.Laws.Tabled.{look_all, look_end}
-use Rattle.references.proofs.Tables.{look_hit, look_miss}
+-- `node_of` meets its contract.
+use Rattle.std.proofs.Common.{◌≡◌, true, false, rules}
+use Rattle.std.proofs.lemmas.Iterator.{first_from_Range}
+use borrow.Author.Tests.{tests}
+use Rattle.references.proofs.Tables.{says, look_first, tells_hit, tells_miss}
 use Rattle.references.proofs.table.node_of.Goals as goal
 
-pub loop-i-init : goal.loop-i-init
-loop-i-init c = (omega arith, look_all c.args.work.now c.args.count c.args.phandle)
-
-pub has-requires : goal.has-requires
-has-requires c = tt
-
-pub returns-then-has : goal.returns-then-has
-returns-then-has c = sym (c.loop-i.invariant.1 ∙ look_hit c.args.work.now c.args.count c.args.phandle c.loop-i.i c.loop-i-test.true (sym c.has.ensures ∙ c.if-has.true))
-
-pub loop-i-preserved : goal.loop-i-preserved
-loop-i-preserved c = (omega arith, c.loop-i.invariant.1 ∙ look_miss c.args.work.now c.args.count c.args.phandle c.loop-i.i c.loop-i-test.true (sym c.has.ensures ∙ c.if-has.false))
-
 pub returns : goal.returns
-returns c = sym (c.loop-i.invariant.1 ∙ look_end c.args.work.now c.args.count c.args.phandle c.loop-i.i c.loop-i-test.false)
+returns c =
+    let t = c.args.tree.now in
+    let w = c.args.phandle in
+    look_first t.work.now t.count w c.find.result
+    (first_from_Range _ _ _ c.find.result (λ i. says t.work.now t.count w i ≡ true) (λ i. says t.work.now t.count w i ≡ false) c.find.ensures.ran
+    (λ x q k. search (rules, tests, tells_hit t.work.now t.count w x))
+    (λ x q k. search (rules, tests, tells_miss t.work.now t.count w x)))

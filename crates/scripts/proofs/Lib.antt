@@ -1,0 +1,2 @@
+-- What the proofs of this library share.
+pub mod Spelt

@@ -1,0 +1,2 @@
+-- What the contracts of this library cite.
+pub mod Scripts

@@ -1,1 +1,0 @@
--- The program promises nothing: what it writes is compared.
