@@ -6,9 +6,6 @@ use Rattle.rules.proofs.Laws.Octets.{take_rest}
 use Rattle.rules.proofs.Laws.Writer.{name_here, name_past, name_nowhere, offset_le}
 use Rattle.append.proofs.find_name.Goals as goal
 
-pub loop-at-init : goal.loop-at-init
-loop-at-init c = (omega arith, omega arith)
-
 pub returns-then-closed_here : goal.returns-then-closed_here
 returns-then-closed_here c =
     let s = c.args.strings.now in

@@ -1,16 +1,11 @@
 use mathlib.Core.Path.{sym, ◌∙◌}
-use native.Mathlib.Omega.{arith}
 use lib.ListN.{drop}
 use Rattle.rules.proofs.Laws.Octets.{lay_past}
-use borrow.Author.Tests.{leb-true}
 use Rattle.append.proofs.Laid.{laid_none, laid_more}
 use Rattle.append.proofs.words.Goals as goal
 
 pub returns-then-data-p : goal.returns-then-data-p
 returns-then-data-p g c = sym (c.loop-word.invariant ∙ lay_past c.loop-word.«data» c.loop-word.p (g.T.Word.bytes (drop c.loop-word.word-index c.args.words.now)) c.if-data-p.true)
-
-pub overflow_add-p : goal.overflow_add-p
-overflow_add-p g c = omega (arith, leb-true g.T.Word.SIZE 8 g.met.T.Word.narrow)
 
 pub loop-word-preserved : goal.loop-word-preserved
 loop-word-preserved g c =

@@ -6,7 +6,7 @@ use Prim.Native.Nat.{ℕ}
 use lib.ListN.{length, drop}
 use Rattle.rules.specs.Ceilings.{work_words}
 use Rattle.rules.specs.Laws.Host.{HostRead}
-use Rattle.rules.proofs.Laws.Host.{host_read, cleared, space_cleared, space_length_kept}
+use Rattle.rules.proofs.Laws.Host.{host_read, cleared, space_cleared}
 use Rattle.reader.specs.Answers.{meaning}
 use Rattle.device.proofs.Joining.{refused_answer, refused_list, refused_space, found_is, found_list}
 use Rattle.device.proofs.find_all_passthrough_devices.Goals as goal
@@ -16,12 +16,6 @@ accepted-listed-requires c =
     let a = c.args in
     subst (λ (ws : List ℕ). HostRead a.host.now ws c.in_ok-count.count) (sym c.read.ensures.work_after)
     (host_read a.host.now a.work.now c.in_ok-count.count (sym (ap meaning c.in_ok-count.was) ∙ c.read.ensures.result_value))
-
-pub shape_of-work-in_err-count : goal.shape_of-work-in_err-count
-shape_of-work-in_err-count c =
-    let a = c.args in
-    let e = sym (ap meaning c.in_err-count.was) ∙ c.read.ensures.result_value in
-    ap length (c.read.ensures.work_after ∙ refused_space a.host.now a.configured.now a.excluded.now a.work.now c.in_err-count.field-0.0 e) ∙ space_length_kept a.work.now
 
 pub returns-in_err-count : goal.returns-in_err-count
 returns-in_err-count c =
@@ -34,13 +28,6 @@ returns-in_err-count c =
       list_after = refused_list a.host.now a.configured.now a.excluded.now a.work.now r e a.list.now;
       work_after = c.read.ensures.work_after ∙ refused_space a.host.now a.configured.now a.excluded.now a.work.now r e;
     }
-
-pub shape_of-work : goal.shape_of-work
-shape_of-work c =
-    let a = c.args in
-    let d = c.accepted-listed in
-    let e = sym (ap meaning c.in_ok-count.was) ∙ c.read.ensures.result_value in
-    ap length (space_cleared a.host.now a.work.now c.in_ok-count.count e d.new.work _ (d.ensures.size ∙ ap length c.read.ensures.work_after) (d.ensures.rest ∙ ap (drop work_words) c.read.ensures.work_after) (cleared d.new.work _ c.clear.ensures)) ∙ space_length_kept a.work.now
 
 pub returns : goal.returns
 returns c =

@@ -1,12 +1,7 @@
 use Rattle.std.proofs.Common.{◌∙◌, arith}
-use native.Mathlib.Nat.{sub_self}
-use lib.Seq.{paste-zero}
-use Rattle.printed.specs.Text.{in_lines, length_lines}
+use Rattle.printed.specs.Text.{length_lines}
 use Rattle.printed.proofs.Laying.{line_more, lines_done}
 use Rattle.printed.proofs.put_lines.Goals as goal
-
-pub loop-p-init : goal.loop-p-init
-loop-p-init c = (omega arith, rw (sub_self c.args.at) (paste-zero c.args.out.now c.args.at (in_lines c.args.list.now)))
 
 pub loop-p-preserved : goal.loop-p-preserved
 loop-p-preserved c = (omega arith, rw (c.loop-p.invariant.1, c.in_line.ensures) (line_more c.args.out.now c.args.at c.args.list.now c.loop-p.p (omega arith) (omega arith)))

@@ -1,15 +1,9 @@
 use native.Mathlib.Omega.{arith}
-use Rattle.printed.proofs.Spelling.{spelling_none, spelling_place, spelling_more, spelling_last}
+use Rattle.printed.proofs.Spelling.{spelling_none, spelling_more, spelling_last}
 use Rattle.printed.proofs.spell.Goals as goal
 
 pub loop-rest-init : goal.loop-rest-init
 loop-rest-init c = spelling_none c.args.n c.args.text.now (omega arith) (omega arith)
-
-pub overflow_sub-first-in-loop-rest : goal.overflow_sub-first-in-loop-rest
-overflow_sub-first-in-loop-rest c = omega (arith, spelling_place c.loop-rest.invariant c.loop-rest-test.true)
-
-pub loop-rest-smaller : goal.loop-rest-smaller
-loop-rest-smaller c = omega (arith, spelling_place c.loop-rest.invariant c.loop-rest-test.true)
 
 pub loop-rest-preserved : goal.loop-rest-preserved
 loop-rest-preserved c = rw c.digit.ensures (spelling_more c.loop-rest.invariant c.loop-rest-test.true)

@@ -1,11 +1,8 @@
-use mathlib.Core.Path.{refl, sym, ◌∙◌}
+use mathlib.Core.Path.{sym, ◌∙◌}
 use native.Mathlib.Omega.{arith}
 use Rattle.rules.proofs.Laws.Tokens.{item_ahead}
 use Rattle.tokens.proofs.Properties.{property_stop, property_nop, property_here, property_past}
 use Rattle.tokens.proofs.property_at.Goals as goal
-
-pub loop-kind-init : goal.loop-kind-init
-loop-kind-init c = refl
 
 pub returns : goal.returns
 returns c = sym (c.loop-kind.invariant ∙ property_stop c.args.structure.now c.loop-kind.at c.token_at.result c.token_at.ensures c.in_default.not-Item)

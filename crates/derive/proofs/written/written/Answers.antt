@@ -1,40 +1,10 @@
 -- `written` meets its contract: listed and marked, measured, and written where both fit.
 use Rattle.std.proofs.lemmas.Result.{err_from_is_err_and}
-use native.Mathlib.Omega.{arith}
 use Rattle.rules.specs.Copy.{Asked as AskedFor}
 use Rattle.rules.specs.Laws.Lent.{block_lent}
 use Rattle.derive.specs.Wanted.{wanted_lent}
-use Rattle.derive.proofs.Writing.{ready, ready_first, rest_is, writes-none, guest-room, writes-both}
+use Rattle.derive.proofs.Writing.{ready, ready_first, writes-none, guest-room, writes-both}
 use Rattle.derive.proofs.written.written.Goals as goal
-
-pub marked-n-requires : goal.marked-n-requires
-marked-n-requires c = c.requires.asked
-
-pub measure-size-requires : goal.measure-size-requires
-measure-size-requires c = (c.requires.asked.kept.small, c.requires.asked.kept.brief, omega (arith, c.requires.asked.kept.room, c.marked-n.ensures.size))
-
-pub list_len-listed-requires : goal.list_len-listed-requires
-list_len-listed-requires c =
-    let a = c.args in
-    let p = c.requires in
-    let q : AskedFor = wanted_lent a.wanted.now in
-    let rest = rest_is (block_lent a.block.now) a.count q a.work.now p.asked p.whole _ c.marked-n.result c.marked-n.ensures _ c.measure-size.ensures.kept in
-    record {
-      structure_len_bound = p.asked.kept.small;
-      count_le_node_ceiling = p.asked.kept.few;
-      n_le_node_ceiling = c.marked-n.ensures.short;
-      work_words_in_bounds = omega (arith, rest.0, p.asked.kept.room);
-    }
-
-pub total-copied-requires : goal.total-copied-requires
-total-copied-requires c = c.measure-size.ensures.small
-
-pub shape_of-work-in_err-granted : goal.shape_of-work-in_err-granted
-shape_of-work-in_err-granted c =
-    let a = c.args in
-    let p = c.requires in
-    let q : AskedFor = wanted_lent a.wanted.now in
-    (rest_is (block_lent a.block.now) a.count q a.work.now p.asked p.whole _ c.marked-n.result c.marked-n.ensures _ c.measure-size.ensures.kept).0
 
 pub returns-in_err-granted : goal.returns-in_err-granted
 returns-in_err-granted c =
@@ -61,26 +31,6 @@ write-requires c =
           c.measure-size.result (c.measure-size.ensures.sieved b.place first) c.list_len-listed.result c.total-copied.result
           c.list_len-listed.ensures c.total-copied.ensures a.list.now a.guest.now c.granted.result c.granted.ensures c.in_ok-granted.was,
     )
-
-pub list_out-requires : goal.list_out-requires
-list_out-requires c =
-    let a = c.args in
-    let p = c.requires in
-    let q : AskedFor = wanted_lent a.wanted.now in
-    let rest = rest_is (block_lent a.block.now) a.count q a.work.now p.asked p.whole _ c.marked-n.result c.marked-n.ensures _ c.measure-size.ensures.kept in
-    record {
-      structure_len_bound = p.asked.kept.small;
-      count_le_node_ceiling = p.asked.kept.few;
-      n_le_node_ceiling = c.marked-n.ensures.short;
-      work_words_in_bounds = omega (arith, rest.0, p.asked.kept.room);
-    }
-
-pub shape_of-work : goal.shape_of-work
-shape_of-work c =
-    let a = c.args in
-    let p = c.requires in
-    let q : AskedFor = wanted_lent a.wanted.now in
-    (rest_is (block_lent a.block.now) a.count q a.work.now p.asked p.whole _ c.marked-n.result c.marked-n.ensures _ c.measure-size.ensures.kept).0
 
 pub returns : goal.returns
 returns c =

@@ -2,10 +2,8 @@
 use Rattle.std.proofs.lemmas.Result.{err_from_is_err_and}
 use mathlib.Core.Path.{refl, sym, ap, ◌∙◌}
 use native.Mathlib.Omega.{arith}
-use lib.ListN.{length}
 use Rattle.rules.specs.Device.{wanted}
 use Rattle.rules.specs.Laws.Lent.{tree_lent}
-use Rattle.rules.proofs.Laws.Octets.{length_lay}
 use Rattle.rules.proofs.Laws.Given.{lists_few}
 use Rattle.given.specs.Answers.{meaning as gmeaning}
 use Rattle.asked.specs.Answers.{meaning as ameaning}
@@ -26,9 +24,6 @@ configured-requires c = record {
   list_in_bounds = omega (arith, lists_few (wanted c.args.configured.now c.args.excluded.now) (sym (sym (ap gmeaning c.in_ok-lists_judged.was) ∙ c.lists_judged.ensures)), c.requires.entry_ceiling_in_bounds);
 }
 
-pub shape_of-conf-in_err-n : goal.shape_of-conf-in_err-n
-shape_of-conf-in_err-n c = ap length c.configured.ensures.out_after ∙ length_lay c.args.conf.now 0 _
-
 pub returns-in_err-n : goal.returns-in_err-n
 returns-in_err-n c =
     let a = c.args in
@@ -36,9 +31,6 @@ returns-in_err-n c =
     rw (e.1, e.2) (checks-named (wanted_so (tree_lent a.tree.now) a.configured.now a.excluded.now) a.conf.now _
     (sym (ap gmeaning c.in_ok-lists_judged.was) ∙ c.lists_judged.ensures) _ c.configured.ensures.out_after c.in_err-n.field-0.0.at refl
     (sym (ap ameaning c.in_err-n.was) ∙ c.configured.ensures.result_value))
-
-pub shape_of-conf : goal.shape_of-conf
-shape_of-conf c = ap length c.configured.ensures.out_after ∙ length_lay c.args.conf.now 0 _
 
 pub returns : goal.returns
 returns c =

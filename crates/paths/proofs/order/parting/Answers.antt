@@ -1,7 +1,7 @@
 use native.Mathlib.Omega.{arith}
 use Rattle.rules.specs.Laws.Lent.{block_lent, tree_lent}
 use Rattle.rules.proofs.Laws.Tabled.{tree_length}
-use Rattle.paths.proofs.Ways.{fork_start, fork_right, fork_left, fork_met}
+use Rattle.paths.proofs.Ways.{fork_start, fork_right, fork_left}
 use Rattle.paths.proofs.order.parting.Goals as goal
 
 pub loop-a-init : goal.loop-a-init
@@ -19,6 +19,3 @@ pub loop-a-preserved : goal.loop-a-preserved
 loop-a-preserved c =
     λ w g h. fork_left (tree_lent c.args.tree.now) w c.args.i c.args.j c.loop-a.a c.loop-a.b c.loop-a.fork (c.loop-a.invariant w g h) c.above-a.result
     (omega arith) c.above-a.ensures.near (c.above-a.ensures.less (omega arith))
-
-pub returns : goal.returns
-returns c = λ w g h. fork_met (tree_lent c.args.tree.now) w c.args.i c.args.j c.loop-a.a c.loop-a.b c.loop-a.fork c.loop-a-test.false (c.loop-a.invariant w g h)

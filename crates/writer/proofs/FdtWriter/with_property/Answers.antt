@@ -2,10 +2,9 @@
 use mathlib.Core.Path.{refl, sym}
 use native.Mathlib.Omega.{arith}
 use native.Mathlib.Nat.{add-zero}
-use borrow.Author.Tests.{lt-ltb, le-ltb}
+use borrow.Author.Tests.{lt-ltb}
 use Rattle.rules.specs.Ceilings.{blob_ceiling}
 use Rattle.rules.proofs.Laws.Octets.{lay_nil}
-use Rattle.rules.proofs.Laws.Writer.{length_closed}
 use borrow.Author.Rules.{rules}
 use Rattle.writer.proofs.FdtWriter.with_property.Goals as goal
 
@@ -19,6 +18,3 @@ returns-then-offset-self c = rw (lt-ltb c.args.offset c.args.self.strings_len c.
 pub overflow_add-self-3 : goal.overflow_add-self-3
 unfolding blob_ceiling
 overflow_add-self-3 c = omega (arith, c.requires)
-
-pub returns : goal.returns
-returns c = rw (le-ltb c.args.offset c.args.self.strings_len c.if-offset-self.false, length_closed c.args.name.now) (record { state = refl; names = c.name.ensures })
