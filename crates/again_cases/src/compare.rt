@@ -9,23 +9,13 @@ pub fn field(blob: &[u8], at: usize) -> usize {
     octets::word(blob, at) as usize
 }
 
-// The part of a blob whose place and length stand at these places of the header.
-fn part(blob: &[u8], place: usize, len: usize) -> &[u8] {
-    octets::part(blob, field(blob, place), field(blob, len))
-}
-
 // The structure block of a blob, and its strings.
 pub fn block(blob: &[u8]) -> Block {
     Block {
-        structure: part(blob, 8, 36),
-        strings: part(blob, 12, 32),
+        structure: octets::block(blob, 8, 36),
+        strings: octets::block(blob, 12, 32),
         place: field(blob, 8),
     }
-}
-
-// The name at an offset of the strings block, without its NUL.
-pub fn closed_at(strings: &[u8], at: usize) -> &[u8] {
-    octets::part(strings, at, octets::nul(strings, at))
 }
 
 // ---- the events
@@ -43,7 +33,7 @@ fn event(digest: u32, block: &Block, kind: Kind, at: usize) -> u32 {
         ),
         Kind::EndNode => mixed(digest, 2),
         Kind::Prop { len, name, value } => text(
-            text(mixed(digest, 3), closed_at(block.strings, name)),
+            text(mixed(digest, 3), octets::string_at(block.strings, name)),
             octets::part(block.structure, value, len),
         ),
         Kind::Nop => digest,

@@ -80,7 +80,7 @@ fn call(
         Kind::Prop { len, name, value } => w.property(
             data,
             strings,
-            compare::closed_at(block.strings, name),
+            octets::string_at(block.strings, name),
             octets::part(block.structure, value, len),
         ),
         Kind::Nop => Ok(w),
