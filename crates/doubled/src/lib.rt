@@ -5,7 +5,8 @@
 mod props;
 mod sorted;
 
-ghost use Rattle.std.specs.Prelude.{◌≡◌, ℕ, ◌+◌, ◌≤◌, length};
+ghost use Rattle.std.specs.Prelude.{◌≡◌, true, false, ℕ, ◌+◌, ◌≤◌, length};
+ghost use Rattle.rules.specs.Octets.{begins};
 ghost use Rattle.std.specs.Option.{option_copied};
 ghost use Rattle.rules.specs.Tree.{doubled_judged};
 ghost use Rattle.doubled.specs.Passes.{nodes_lent, row_in, verdict, Inside};
@@ -16,11 +17,33 @@ ghost use Rattle.doubled.specs.Siblings.{named_at, row_named, sibling_below, row
 use props::doubled_props;
 use rules::{Block, Kind, NODE_WORDS, Token};
 
-// Whether a name without NUL is the name that stands at the start of `tail`, up to its NUL or the end.
+// Whether a name and what stands in `tail` differ in their first N bytes, where both have so many.
+fn differ<const N: usize>(name: &[u8], tail: &[u8]) -> bool
+    requires { N ≤ 8 }
+    ensures { result ≡ true → begins name.now tail.now ≡ false }
+{
+    let (Some(a), Some(b)) = (name.first_chunk::<N>(), tail.first_chunk::<N>()) else {
+        return false;
+    };
+    a != b
+}
+
+// Whether a name without NUL is the name that stands at the start of `tail`, up to its NUL or the end. Most pairs of names differ in
+// their first bytes, their length or their last byte, which are looked at first: that costs no call.
 fn named_at(name: &[u8], tail: &[u8]) -> bool
     ensures { result ≡ named_at name.now tail.now }
 {
-    tail.starts_with(name) && octets::byte(tail, name.len()) == 0
+    let apart = match name.len() {
+        8.. => differ::<8>(name, tail),
+        4.. => differ::<4>(name, tail),
+        2.. => differ::<2>(name, tail),
+        _ => differ::<1>(name, tail),
+    };
+    if apart || octets::byte(tail, name.len()) != 0 {
+        return false;
+    }
+    let last = name.len().saturating_sub(1);
+    octets::byte(tail, last) == octets::byte(name, last) && tail.starts_with(name)
 }
 
 // The row of node i in the node table; None where the work space has no room for it.
@@ -43,10 +66,7 @@ fn row_named(block: &Block, work: &[u32], j: usize, parent: u32, name: &[u8]) ->
         return false;
     }
     let from = begin - block.place + 4;
-    named_at(
-        name,
-        octets::part(block.structure, from, block.structure.len()),
-    )
+    named_at(name, octets::part(block.structure, from, usize::MAX))
 }
 
 // Whether a node before i has this parent and this name, by its row. A node stands behind its parent, so that no row before the

@@ -2,25 +2,25 @@
 use mathlib.Core.Path.{◌≡◌, refl, sym, ap, ◌∙◌}
 use mathlib.Core.Logic.{inl, inr}
 use mathlib.Core.Bool.{Bool, true, false, ◌||◌}
-use mathlib.Core.List.{List, [], ◌∷◌, ◌++◌, append-nil}
+use mathlib.Core.List.{List, [], ◌∷◌, ◌++◌, append-nil, reverse, reverse-cons}
 use Prim.Native.Nat.{ℕ, zero, suc, ◌+◌, ◌-◌, ◌≤◌, ◌<◌}
 use native.Mathlib.Omega.{arith}
 use native.Mathlib.Numerals.{add-one}
-use lib.Dec.{ltb}
+use lib.Dec.{eqb, ltb}
 use lib.ListN.{length, get_or, take, drop, length-drop, drop_of_length-le}
 use lib.Seq.{length-take-le, take-suc}
-use borrow.Author.Tests.{lt-ltb, le-ltb, ltb-true, ltb-false}
+use borrow.Author.Tests.{lt-ltb, le-ltb, ltb-true, ltb-false, eqb-true}
 use Rattle.rules.specs.Ceilings.{node_ceiling, node_words, work_words}
 use Rattle.rules.specs.Space.{table_words, marks_at, list_at, stack_at}
-use Rattle.std.specs.List.{list_any}
-use Rattle.std.proofs.lemmas.List.{get_or-drop}
+use Rattle.std.specs.List.{list_any, zip}
+use Rattle.std.proofs.lemmas.List.{get_or-drop, take_all, length-reverse}
 use Rattle.std.proofs.lemmas.List.Folds.{list_any-append}
 use Rattle.rules.specs.Octets.{part, Bytes, nul_in, lay, same}
 use Rattle.rules.specs.Events.{string_at}
 use Rattle.rules.specs.declared.Kind.{Kind}
 use Rattle.rules.specs.declared.Kind.TheVariants.{Begin, EndNode, Prop, Nop}
-use Rattle.rules.proofs.Laws.Tests.{by_test, by_le, never, or_cases, or_left, or_right, not_passed, or_nothing, or_comm}
-use Rattle.rules.proofs.Laws.Octets.{same_eq, nul_le, length_lay, lay_one_same, lay_one_other}
+use Rattle.rules.proofs.Laws.Tests.{by_test, by_le, never, or_cases, or_left, or_right, not_passed, or_nothing, or_comm, or_assoc}
+use Rattle.rules.proofs.Laws.Octets.{same_eq, eq_same, nul_le, length_lay, lay_one_same, lay_one_other}
 use Rattle.rules.proofs.Laws.Kept.{list_behind, stack_behind, only_none, only_one}
 use Rattle.std.specs.Prelude.{Option, Some, None, is_some}
 use Rattle.guest.specs.declared.measured.Sum.{Sum}
@@ -202,6 +202,75 @@ words_any strings ws (suc n) x h =
 pub table_any : (strings : Bytes) (ws : List ℕ) (m n : ℕ) (x : Bytes) (at : ℕ) → m ≡ n → at ≡ stack_at → stack_at + n ≤ length ws
     → list_any (λ (o : ℕ). same x (string_at strings o)) (part ws at m) ≡ in_table strings ws n x
 table_any strings ws m n x at e f h = rw (e, f) (words_any strings ws n x h)
+
+-- a word of the table that is this offset is an offset of its name
+words_hit : (strings : Bytes) (o : ℕ) (ws : List ℕ) → list_any (λ (w : ℕ). eqb w o) ws ≡ true
+    → list_any (λ (w : ℕ). same (string_at strings o) (string_at strings w)) ws ≡ true
+words_hit strings o [] h = h
+words_hit strings o (w ∷ ws) h = elim (or_cases (eqb w o) (list_any (λ (v : ℕ). eqb v o) ws) h) [
+  | inl e ↦ or_left _ _ (eq_same _ _ (ap (string_at strings) (sym (eqb-true w o e))))
+  | inr e ↦ or_right _ _ (words_hit strings o ws e)
+]
+
+pub table_hit : (strings : Bytes) (ws : List ℕ) (m n o at : ℕ) → m ≡ n → at ≡ stack_at → stack_at + n ≤ length ws
+    → list_any (λ (w : ℕ). eqb w o) (part ws at m) ≡ true → true ≡ in_table strings ws n (string_at strings o)
+table_hit strings ws m n o at e f h g = sym (words_hit strings o (part ws at m) g) ∙ table_any strings ws m n (string_at strings o) at e f h
+
+-- a search from both ends at once
+
+or_pairs : (a b c d : Bool) → ((a || b) || (c || d)) ≡ ((a || c) || (b || d))
+or_pairs true b c d = refl
+or_pairs false true c d = sym (or_right c true refl)
+or_pairs false false c d = refl
+
+or_twice : (a b : Bool) → ((a || a) || b) ≡ (a || b)
+or_twice true b = refl
+or_twice false b = refl
+
+module _ (f : ℕ → Bool) where
+  pairs_any : (xs ys : List ℕ) → length xs ≡ length ys → list_any (λ (p : ℕ × ℕ). f p.0 || f p.1) (zip xs ys) ≡ (list_any f xs || list_any f ys)
+  pairs_any [] [] h = refl
+  pairs_any [] (y ∷ ys) h = absurd (omega arith)
+  pairs_any (x ∷ xs) [] h = absurd (omega arith)
+  pairs_any (x ∷ xs) (y ∷ ys) h =
+      ap (λ (t : Bool). (f x || f y) || t) (pairs_any xs ys (omega arith)) ∙ or_pairs (f x) (f y) (list_any f xs) (list_any f ys)
+
+  back_any : (xs : List ℕ) → list_any f (reverse xs) ≡ list_any f xs
+  back_any [] = refl
+  back_any (x ∷ xs) =
+      ap (list_any f) (reverse-cons x xs) ∙ list_any-append f (reverse xs) (x ∷ [])
+      ∙ rw (back_any xs, or_nothing) (or_comm (list_any f xs) (f x))
+
+  -- a part from the front and a part to the end that leave nothing out
+  parts_any : (xs : List ℕ) (a b : ℕ) → b ≤ a → (list_any f (take a xs) || list_any f (drop b xs)) ≡ list_any f xs
+  parts_any [] zero zero h = refl
+  parts_any [] zero (suc b) h = refl
+  parts_any [] (suc a) zero h = refl
+  parts_any [] (suc a) (suc b) h = refl
+  parts_any (x ∷ xs) zero zero h = refl
+  parts_any (x ∷ xs) zero (suc b) h = absurd (omega arith)
+  parts_any (x ∷ xs) (suc a) zero h =
+      or_pairs (f x) (list_any f (take a xs)) (f x) (list_any f xs)
+      ∙ or_twice (f x) (list_any f (take a xs) || list_any f xs)
+      ∙ ap (λ (t : Bool). f x || t) (parts_any xs a 0 (omega arith))
+  parts_any (x ∷ xs) (suc a) (suc b) h =
+      or_assoc (f x) (list_any f (take a xs)) (list_any f (drop b xs)) ∙ ap (λ (t : Bool). f x || t) (parts_any xs a b (omega arith))
+
+  ends_any : (xs : List ℕ) (k h m : ℕ) → k + h ≡ length xs → h ≤ k → m ≡ k
+      → list_any (λ (p : ℕ × ℕ). f p.0 || f p.1) (zip (take k xs) (reverse (take m (drop h xs)))) ≡ list_any f xs
+  ends_any xs k h m e g q =
+      let long = length-drop h xs in
+      let all : take m (drop h xs) ≡ drop h xs = take_all m (drop h xs) (omega (arith, long)) in
+      pairs_any (take k xs) (reverse (take m (drop h xs))) (omega (arith, length-take-le k xs (omega arith), length-reverse (take m (drop h xs)), ap length all, long))
+      ∙ ap (λ (t : Bool). list_any f (take k xs) || t) (back_any (take m (drop h xs)) ∙ ap (list_any f) all)
+      ∙ parts_any xs k h g
+
+pub table_ends : (strings : Bytes) (ws : List ℕ) (m n : ℕ) (x : Bytes) (at k h j : ℕ) → m ≡ n → at ≡ stack_at → stack_at + n ≤ length ws
+    → k + h ≡ n → h ≤ k → j ≡ k
+    → list_any (λ (p : ℕ × ℕ). same x (string_at strings p.0) || same x (string_at strings p.1)) (zip (take k (part ws at m)) (reverse (take j (drop h (part ws at m))))) ≡ in_table strings ws n x
+table_ends strings ws m n x at k h j e f l p g q =
+    let long : length (part ws at m) ≡ m = length-take-le m (drop at ws) (omega (arith, length-drop at ws)) in
+    ends_any (λ (o : ℕ). same x (string_at strings o)) (part ws at m) k h j (omega (arith, long)) g q ∙ table_any strings ws m n x at e f l
 
 -- ---- entering
 

@@ -21,15 +21,23 @@ fn same_name(strings: &[u8], a: usize, b: usize) -> bool
     a == b || octets::same(octets::string_at(strings, a), octets::string_at(strings, b))
 }
 
-// Whether the table of names has the one at this offset.
+// Whether the table of names has the one at this offset. A name met again mostly has the offset that it had, and words are searched
+// faster than names. The names are searched from both ends at once, as those met again may be the first as well as the last.
 fn in_table(strings: &[u8], work: &[u32], names: usize, offset: usize) -> bool
     requires { (names ≤ table_room) × (work_words ≤ length work.now) }
     ensures { result ≡ in_table strings.now work.now names (string_at strings.now offset) }
 {
     let table = &work[STACK_AT..STACK_AT + names];
-    table
-        .iter()
-        .any(|o| same_name(strings, offset, *o as usize))
+    if let Ok(word) = u32::try_from(offset)
+        && table.contains(&word)
+    {
+        return true;
+    }
+    let half = names / 2;
+    let newest = table[half..].iter().rev();
+    table[..names - half].iter().zip(newest).any(|(a, b)| {
+        same_name(strings, offset, *a as usize) || same_name(strings, offset, *b as usize)
+    })
 }
 
 // Whether a copied property has this name.

@@ -1,5 +1,5 @@
 // The start of a blob: its tests, and the memory reservation block.
-ghost use Rattle.std.specs.Prelude.{◌≡◌, ◌+◌, ◌*◌, length};
+ghost use Rattle.std.specs.Prelude.{◌≡◌, ◌+◌, ◌*◌, length, min};
 ghost use Rattle.rules.specs.Octets.{lay};
 ghost use Rattle.rules.specs.Reservations.{block};
 ghost use Rattle.rules.specs.Writer.{start_bytes, start_judged};
@@ -10,11 +10,11 @@ use crate::{Error, short};
 use reservation::Reservation;
 use rules::{FDT_HEADER_SIZE, RESERVATION_CEILING};
 
-// The bytes that a start with these reservations takes: the header, the reservations, and the pair of zeros.
-pub fn start_size(reservations: &[Reservation]) -> usize
-    ensures { result ≡ 56 + 16 * length reservations.now }
+// The bytes that a start with so many reservations, at most 32, takes: the header, the reservations, and the pair of zeros.
+pub fn start_size(count: usize) -> usize
+    ensures { result ≡ 56 + 16 * min count 32 }
 {
-    FDT_HEADER_SIZE + Reservation::SIZE + Reservation::SIZE * reservations.len()
+    FDT_HEADER_SIZE + Reservation::SIZE + Reservation::SIZE * count.min(RESERVATION_CEILING)
 }
 
 // The tests of a start: NoRoom (33) for over 32 reservations, InvalidMemoryReservation (27),
@@ -31,7 +31,7 @@ pub fn judge_start(data_lent: usize, reservations: &[Reservation]) -> Result<(),
     if reservation::any_overlap(reservations) {
         return Err(Error::OverlappingMemoryReservations);
     }
-    if short(data_lent, 0, start_size(reservations)) {
+    if short(data_lent, 0, start_size(reservations.len())) {
         return Err(Error::NoRoom);
     }
     Ok(())

@@ -14,7 +14,10 @@ use rules::Tree;
 fn before_name<'a>(p: &'a [u8], name: &[u8]) -> Option<&'a [u8]>
     ensures { MatchOption result ((front : Bytes) → p.now ≢ front ++ 47 ∷ name.now) (λ front. p.now ≡ front.now ++ 47 ∷ name.now) }
 {
-    p.strip_suffix(name)?.strip_suffix(b"/")
+    // The slash comes first: one byte turns nearly every node away.
+    let (front, last) = p.split_at(p.len().checked_sub(name.len())?);
+    let (slash, front) = front.split_last()?;
+    (*slash == b'/' && last == name).then_some(front)
 }
 
 // Whether node i has this path.

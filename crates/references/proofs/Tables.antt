@@ -8,10 +8,9 @@ use native.Mathlib.Omega.{arith}
 use native.Mathlib.Numerals.{add-one}
 use lib.Dec.{eqb}
 use borrow.Author.Tests.{eqb-true, eqb-false}
-use Rattle.std.specs.Prelude.{Option, None, Some, MatchOption, nat_eq}
-use Rattle.std.specs.Option.{option_eq}
-use Rattle.rules.proofs.Laws.Tests.{by_test, and_true, eqb_sym}
-use Rattle.rules.specs.Laws.Tabled.{cell, phandle_in, look_in}
+use Rattle.std.specs.Prelude.{Option, None, Some, MatchOption}
+use Rattle.rules.proofs.Laws.Tests.{by_test, and_true}
+use Rattle.rules.specs.Laws.Tabled.{cell, look_in}
 use Rattle.rules.proofs.Laws.Tabled.{look_from, look_all, look_end, look_bare, look_other, look_here}
 use Rattle.references.specs.Table.{found}
 
@@ -45,17 +44,3 @@ module _ (ws : List ℕ) (count w : ℕ) where
   pub look_first : (r : Option ℕ) → MatchOption r (Passed count) (λ i. (0 ≤ i) × (i < count) × (says i ≡ true) × Passed i) → found r ≡ look_in ws count w
   look_first None f = sym (look_all ws count w ∙ look_past count (omega arith) f ∙ look_end ws count w count (omega arith))
   look_first (Some i) f = sym (look_all ws count w ∙ look_past i (omega (arith, f.1)) f.3 ∙ look_hit i f.1 f.2)
-
-module _ (ws : List ℕ) (count w i : ℕ) (o : Option ℕ) (e : found o ≡ phandle_in ws i) where
-  tells : option_eq nat_eq o (Some w) ≡ says ws count w i
-  tells = by o e
-    where
-      by : (p : Option ℕ) → found p ≡ phandle_in ws i → option_eq nat_eq p (Some w) ≡ says ws count w i
-      by None f = by_test (eqb (cell ws i 2) 1) (λ t. absurd (let g = rw t at f in let z : ⊥ = cc in z)) (λ t. rw t)
-      by (Some p) f = by_test (eqb (cell ws i 2) 1) (λ t. let g = rw t at f in let z : p ≡ cell ws i 3 = cc in rw (t, z) (eqb_sym (cell ws i 3) w)) (λ t. absurd (let g = rw t at f in let z : ⊥ = cc in z))
-
-  pub tells_hit : (b : Bool) → b ≡ option_eq nat_eq o (Some w) → b ≡ true → says ws count w i ≡ true
-  tells_hit b p h = sym tells ∙ sym p ∙ h
-
-  pub tells_miss : (b : Bool) → b ≡ option_eq nat_eq o (Some w) → b ≡ false → says ws count w i ≡ false
-  tells_miss b p h = sym tells ∙ sym p ∙ h

@@ -78,7 +78,7 @@ impl FdtWriter {
     {
         FdtWriter::fresh(0, true).or_refused(start::judge_start(data.len(), reservations))?;
         start::write_start(data, reservations);
-        Ok(FdtWriter::fresh(start::start_size(reservations), false))
+        Ok(FdtWriter::fresh(start::start_size(reservations.len()), false))
     }
 
     // A state of n bytes of data, nothing open.
@@ -344,13 +344,13 @@ impl FdtWriter {
         data: &mut [u8],
         strings: &mut [u8],
         name: &[u8],
-        cells: &[u64],
+        longs: &[u64],
     ) -> Result<FdtWriter, Refused>
-        ensures answer { meaning result ≡ property (state_of self) (length «data».old) strings.old false name.now (words64 cells.now) }
-        ensures bytes { «data».new ≡ property_data (state_of self) «data».old strings.old false name.now (words64 cells.now) }
-        ensures names { strings.new ≡ property_strings (state_of self) (length «data».old) strings.old false name.now (words64 cells.now) }
+        ensures answer { meaning result ≡ property (state_of self) (length «data».old) strings.old false name.now (words64 longs.now) }
+        ensures bytes { «data».new ≡ property_data (state_of self) «data».old strings.old false name.now (words64 longs.now) }
+        ensures names { strings.new ≡ property_strings (state_of self) (length «data».old) strings.old false name.now (words64 longs.now) }
     {
-        self.property_words(data, strings, name, cells)
+        self.property_words(data, strings, name, longs)
     }
 
     // Writes the property `phandle` and notes its number behind those noted. Refuses, in this order: ImpossibleState (34),

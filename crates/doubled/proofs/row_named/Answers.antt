@@ -2,7 +2,7 @@
 use mathlib.Core.Path.{◌≡◌, sym, ap, ◌∙◌}
 use Prim.Native.Nat.{ℕ, ◌*◌, ◌+◌, ◌-◌, ◌≤◌, ◌<◌}
 use native.Mathlib.Omega.{arith}
-use lib.ListN.{length, get_or, take, drop, length-drop}
+use lib.ListN.{get_or, take, drop, length-drop}
 use lib.Seq.{take_all}
 use borrow.Author.Tests.{ne_eqb, eq-eqb, lt-leb, le-leb}
 use Rattle.rules.specs.Ceilings.{node_words}
@@ -35,8 +35,8 @@ returns c =
     let z : get_or c.in-Some.field-0.now 0 0 ≡ get_or c.args.work.now (node_words * c.args.j) 0 = row_begin _ _ _ c.row.ensures _ c.in-Some.is in
     let b : c.args.block.now.place ≤ get_or c.args.work.now (node_words * c.args.j) 0 = rw z at c.if-begin-block.false in
     let n : ℕ = get_or c.args.work.now (node_words * c.args.j) 0 - c.args.block.now.place + 4 in
-    let q : c.part.result.now ≡ take (length c.args.block.now.structure.now) (drop (get_or c.in-Some.field-0.now 0 0 - c.args.block.now.place + 4) c.args.block.now.structure.now) = c.part.ensures in
+    let q : c.part.result.now ≡ take 18446744073709551615 (drop (get_or c.in-Some.field-0.now 0 0 - c.args.block.now.place + 4) c.args.block.now.structure.now) = c.part.ensures in
     simp (h, eq-eqb _ _ (sym a ∙ c.if-above-parent.false), le-leb _ _ b)
     (c.named_at.ensures
     ∙ ap (named_at c.args.name.now)
-    (rw z at q ∙ take_all (length c.args.block.now.structure.now) (drop n c.args.block.now.structure.now) (omega (arith, length-drop n c.args.block.now.structure.now))))
+    (rw z at q ∙ take_all 18446744073709551615 (drop n c.args.block.now.structure.now) (omega (arith, length-drop n c.args.block.now.structure.now))))
