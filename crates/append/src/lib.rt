@@ -192,7 +192,12 @@ fn closed_here(s: &[u8], name: &[u8]) -> bool
     if s.len() <= n {
         return false;
     }
-    octets::begins(name, s) && s[n] == 0
+    // Most strings fail at the NUL, the first or the last byte, which cost no call.
+    let last = n.saturating_sub(1);
+    if s[n] != 0 || octets::byte(name, 0) != s[0] || octets::byte(name, last) != s[last] {
+        return false;
+    }
+    octets::begins(name, s)
 }
 
 // Where a string that is `name` begins in a strings block, or the block's length where none is. Strings are counted from the
