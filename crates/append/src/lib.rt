@@ -192,9 +192,9 @@ fn closed_here(s: &[u8], name: &[u8]) -> bool
     if s.len() <= n {
         return false;
     }
-    // Most strings fail at the NUL, the first or the last byte, which cost no call.
+    // Most strings fail at the first byte, the NUL or the last byte, which cost no call.
     let last = n.saturating_sub(1);
-    if s[n] != 0 || octets::byte(name, 0) != s[0] || octets::byte(name, last) != s[last] {
+    if octets::byte(name, 0) != s[0] || s[n] != 0 || octets::byte(name, last) != s[last] {
         return false;
     }
     octets::begins(name, s)
