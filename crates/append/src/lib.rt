@@ -192,16 +192,13 @@ fn closed_here(s: &[u8], name: &[u8]) -> bool
     if s.len() <= n {
         return false;
     }
-    // Most strings fail at the first byte, the NUL or the last byte, which cost no call.
-    let last = n.saturating_sub(1);
-    if octets::byte(name, 0) != s[0] || s[n] != 0 || octets::byte(name, last) != s[last] {
-        return false;
-    }
-    octets::begins(name, s)
+    octets::same_short(name, &s[..n]) && s[n] == 0
 }
 
 // Where a string that is `name` begins in a strings block, or the block's length where none is. Strings are counted from the
 // block's start, each to its NUL: the ending of another is none, nor is a last piece without NUL.
+// Not made a part of whoever asks, whose registers the walk would lack.
+#[inline(never)]
 pub fn find_name(strings: &[u8], name: &[u8]) -> usize
     ensures { result ≡ name_offset name.now strings.now }
 {

@@ -6,8 +6,8 @@ use Prim.Native.Nat.{ℕ, zero, suc, ◌+◌, ◌-◌, ◌*◌, ◌/◌, ◌≤�
 use native.Mathlib.Numerals.{add-one}
 use native.Mathlib.Omega.{arith}
 use lib.Dec.{eqb, leb}
-use lib.ListN.{length, get_or, take, drop, take-append-drop, get_or-append, get_or-eq_default}
-use lib.Seq.{take_at, take-append-le, get_or-drop, get_or-take, length-take-le}
+use lib.ListN.{length, get_or, take, drop, take-append-drop, get_or-eq_default}
+use lib.Seq.{take_at, get_or-drop, get_or-take, length-take-le}
 use borrow.Author.Tests.{eqb-true, eq-eqb, ne_eqb, lt-ltb, le-leb, lt-leb}
 use Rattle.rules.specs.Ceilings.{node_words, node_ceiling, work_words}
 use Rattle.rules.specs.Octets.{Bytes, byte_at, length_to, nul_in, same, begins}
@@ -20,7 +20,7 @@ use Rattle.rules.specs.declared.Token.{Token}
 use Rattle.rules.specs.declared.Token.TheVariants.{Item}
 use Rattle.rules.specs.declared.Kind.{Kind}
 use Rattle.rules.specs.declared.Kind.TheVariants.{Begin, EndNode, Prop, Nop}
-use Rattle.rules.proofs.Laws.Tests.{by_test, by_le, both_ways, and_true, true_and, and_none, not_passed, or_comm, eqb_sym}
+use Rattle.rules.proofs.Laws.Tests.{by_test, by_le, both_ways, and_true, true_and, and_none, or_comm, eqb_sym}
 use Rattle.rules.proofs.Laws.Octets.{nul_le, nul_byte, nul_before, begins_split, begins_append, same_eq, eq_same}
 use Rattle.rules.proofs.Laws.Tokens.{begin_says}
 use Rattle.rules.specs.Laws.Events.{events_at}
@@ -29,9 +29,8 @@ use Rattle.std.specs.Prelude.{Option, Some, None}
 use Rattle.doubled.specs.Sorted.{chunk_start}
 use Rattle.doubled.specs.Props.{Clear}
 use Rattle.doubled.specs.Siblings.{named_at, row_named, sibling_below, row_parent, node_judged, Table}
-use Rattle.std.specs.List.{list_any, range_with_len, starts_with}
-use lib.Pointwise.{pointwise}
-use Rattle.octets.proofs.Slices.{pointwise_same}
+use Rattle.std.specs.List.{list_any, range_with_len}
+use Rattle.octets.proofs.Slices.{begins_taken}
 use Rattle.doubled.proofs.Ranges.{any_more}
 use Rattle.doubled.proofs.Turns.{events_all, events_item, events_stop}
 
@@ -103,41 +102,15 @@ same_named name r e =
     let b : begins name r ≡ true = ap (begins name) q ∙ begins_append name (drop (nul_in r) r) in
     true_and (begins name r) (eqb (byte_at r (length name)) 0) b (eq-eqb (byte_at r (length name)) 0 z)
 
--- the library's test is this one
-pub starts_begins : (name r : Bytes) → starts_with eqb r name ≡ begins name r
-unfolding begins
-starts_begins [] r = refl
-starts_begins (b ∷ name) [] = refl
-starts_begins (b ∷ name) (c ∷ r) = ap (λ (t : Bool). eqb b c && t) (starts_begins name r)
-
--- what stands first, and last, in a name that stands there; where it has no last byte, the NUL stands first
-pub same_start : (n : ℕ) (name r : Bytes) → n ≤ length name → begins name r ≡ true → pointwise eqb (take n name) (take n r) ≡ true
-same_start n name r h b = pointwise_same (take n name) (take n r) ∙ eq_same (take n name) (take n r) (sym (ap (take n) (begins_split name r b) ∙ take-append-le n name (drop (length name) r) h))
-
-same_end : (name r : Bytes) → begins name r ≡ true → byte_at r (length name) ≡ 0 → byte_at r (length name - 1) ≡ byte_at name (length name - 1)
-same_end [] r b z = z
-same_end (x ∷ name) r b z =
-    ap (λ (s : Bytes). byte_at s (suc (length name) - 1)) (begins_split (x ∷ name) r b)
-    ∙ get_or-append (x ∷ name) (drop (suc (length name)) r) 0 (suc (length name) - 1) (omega arith)
-
 module _ (name r : Bytes) where
   pub not_begun : begins name r ≡ false → named_at name r ≡ false
   unfolding named_at
   not_begun h = rw h refl
 
-  pub not_closed : (byte_at r (length name) ≡ 0 → ⊥) → named_at name r ≡ false
+  -- where the first bytes are the name, the NUL tells
+  pub taken_name : same name (take (length name) r) ≡ true → eqb (byte_at r (length name)) 0 ≡ named_at name r
   unfolding named_at
-  not_closed h = rw (ne_eqb (byte_at r (length name)) 0 h) (and_none (begins name r))
-
-  module _ (z : byte_at r (length name) ≡ 0) where
-    pub closed_name : begins name r ≡ named_at name r
-    unfolding named_at
-    closed_name = both_ways (begins name r) (named_at name r)
-        (λ t. true_and (begins name r) (eqb (byte_at r (length name)) 0) t (eq-eqb (byte_at r (length name)) 0 z))
-        (λ t. (and_true (begins name r) (eqb (byte_at r (length name)) 0) t).0)
-
-    pub other_end : (byte_at r (length name - 1) ≡ byte_at name (length name - 1) → ⊥) → named_at name r ≡ false
-    other_end h = not_passed (named_at name r) (λ t. h (same_end name r (closed_name ∙ t) z))
+  taken_name h = rw (sym (begins_taken name r) ∙ h) refl
 
 pub named_at_lem : (name r : Bytes) → NoNul name → named_at name r ≡ same name (up_to r)
 unfolding named_at

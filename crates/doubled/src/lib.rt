@@ -6,7 +6,6 @@ mod props;
 mod sorted;
 
 ghost use Rattle.std.specs.Prelude.{◌≡◌, true, false, ℕ, ◌+◌, ◌≤◌, length};
-ghost use Rattle.rules.specs.Octets.{begins};
 ghost use Rattle.std.specs.Option.{option_copied};
 ghost use Rattle.rules.specs.Tree.{doubled_judged};
 ghost use Rattle.doubled.specs.Passes.{nodes_lent, row_in, verdict, Inside};
@@ -17,33 +16,14 @@ ghost use Rattle.doubled.specs.Siblings.{named_at, row_named, sibling_below, row
 use props::doubled_props;
 use rules::{Block, Kind, NODE_WORDS, Token};
 
-// Whether a name and what stands in `tail` differ in their first N bytes, where both have so many.
-fn differ<const N: usize>(name: &[u8], tail: &[u8]) -> bool
-    requires { N ≤ 8 }
-    ensures { result ≡ true → begins name.now tail.now ≡ false }
-{
-    let (Some(a), Some(b)) = (name.first_chunk::<N>(), tail.first_chunk::<N>()) else {
-        return false;
-    };
-    a != b
-}
-
-// Whether a name without NUL is the name that stands at the start of `tail`, up to its NUL or the end. Most pairs of names differ in
-// their first bytes, their length or their last byte, which are looked at first: that costs no call.
+// Whether a name without NUL is the name that stands at the start of `tail`, up to its NUL or the end.
 fn named_at(name: &[u8], tail: &[u8]) -> bool
     ensures { result ≡ named_at name.now tail.now }
 {
-    let apart = match name.len() {
-        8.. => differ::<8>(name, tail),
-        4.. => differ::<4>(name, tail),
-        2.. => differ::<2>(name, tail),
-        _ => differ::<1>(name, tail),
-    };
-    if apart || octets::byte(tail, name.len()) != 0 {
+    let Some(here) = tail.get(..name.len()) else {
         return false;
-    }
-    let last = name.len().saturating_sub(1);
-    octets::byte(tail, last) == octets::byte(name, last) && tail.starts_with(name)
+    };
+    octets::same_short(name, here) && octets::byte(tail, name.len()) == 0
 }
 
 // The row of node i in the node table; None where the work space has no room for it.

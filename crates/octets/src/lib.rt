@@ -2,7 +2,7 @@
 // its caller: what stands past the end reads 0, and what would be written past the end is dropped.
 #![tactic(auto)]
 
-ghost use Rattle.std.specs.Prelude.{◌≡◌, ℕ, [], ◌∷◌, ◌+◌, ◌<◌, length, get_or, take, drop, replicate};
+ghost use Rattle.std.specs.Prelude.{◌≡◌, ℕ, [], ◌∷◌, ◌+◌, ◌≤◌, ◌<◌, length, get_or, take, drop, replicate};
 ghost use Rattle.rules.specs.Octets.{byte_at, word_at, long_at, length_to, nul_in, part, same, begins, ends, holds, lay, zeros, be32, be64};
 ghost use Rattle.rules.specs.Events.{string_at};
 
@@ -128,6 +128,43 @@ pub fn same(a: &[u8], b: &[u8]) -> bool
     ensures { result ≡ same a.now b.now }
 {
     a == b
+}
+
+// Whether the two are the same bytes, by their first and their last N, which are all where they have N to 2 N of them. The library's
+// test is a call; it is made where they have fewer, or more that agree in both. A part of whoever asks, as is `same_short`: asked in a
+// loop, of one string and many others, its length is told apart once.
+#[inline(always)]
+fn same_by<const N: usize>(a: &[u8], b: &[u8]) -> bool
+    requires { N ≤ 8 }
+    ensures { result ≡ same a.now b.now }
+{
+    if a.len() != b.len() {
+        return false;
+    }
+    let (Some(p), Some(q)) = (a.first_chunk::<N>(), b.first_chunk::<N>()) else {
+        return same(a, b);
+    };
+    let (Some(r), Some(t)) = (a.last_chunk::<N>(), b.last_chunk::<N>()) else {
+        return same(a, b);
+    };
+    if p != q || r != t {
+        return false;
+    }
+    a.len() <= 2 * N || same(a, b)
+}
+
+// Whether the two are the same bytes, as `same` tells; for a name that is compared with many others. It costs no call where their
+// lengths differ, nor of 1 to 16 bytes, nor where the first or the last 8 of more differ.
+#[inline(always)]
+pub fn same_short(a: &[u8], b: &[u8]) -> bool
+    ensures { result ≡ same a.now b.now }
+{
+    match a.len() {
+        8.. => same_by::<8>(a, b),
+        4.. => same_by::<4>(a, b),
+        2.. => same_by::<2>(a, b),
+        _ => same_by::<1>(a, b),
+    }
 }
 
 // Whether s ends with e.
