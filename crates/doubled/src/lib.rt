@@ -5,7 +5,7 @@
 mod props;
 mod sorted;
 
-ghost use Rattle.std.specs.Prelude.{◌≡◌, true, false, ℕ, ◌+◌, ◌≤◌, length};
+ghost use Rattle.std.specs.Prelude.{◌≡◌, ℕ, ◌+◌, ◌≤◌, length};
 ghost use Rattle.std.specs.Option.{option_copied};
 ghost use Rattle.rules.specs.Tree.{doubled_judged};
 ghost use Rattle.doubled.specs.Passes.{nodes_lent, row_in, verdict, Inside};
