@@ -1,5 +1,5 @@
-// Runs the given Rust beside this library and compares the two; see README.md here. The given files are read from where they
-// stand, unchanged: `run` links their folder as `shared` beside these files before it calls the compiler.
+// Runs the given Rust beside this library and compares the two; see README.md here. The given files are read unchanged: `run`
+// lays copies of them into `shared` beside copies of these files before it calls the compiler.
 include!("outside.rs");
 
 use std::sync::atomic::{AtomicBool, Ordering};
